@@ -1,0 +1,61 @@
+-- 128-EEA3 (Document 1) and masking by bit length (document 01, "Masking").
+use mathlib.Core.List.{List, [], _∷_, _++_}
+use Prim.Native.Nat.{ℕ, suc, _+_, _-_, _*_, _/_, _%_, _^_, min}
+use lib.Dec.{ltb, eqb}
+use Rattle.standard.specs.Notation.{_⊕_, if_then_else_}
+
+-- the bytes of a 32-bit number, highest first, and byte j of it
+unfoldable pub byteOf : ℕ → ℕ → ℕ
+byteOf x j = x / 2 ^ (8 * (3 - j)) % 2 ^ 8
+
+abbrev pub bytesOf : ℕ → List ℕ
+bytesOf x = byteOf x 0 ∷ byteOf x 1 ∷ byteOf x 2 ∷ byteOf x 3 ∷ []
+
+-- EEA3: IV[0..3] = COUNT; IV[4] = BEARER || DIRECTION || 00; IV[5..7] = 0; IV[8..15] = IV[0..7]
+abbrev pub halfIV-EEA3 : ℕ → ℕ → ℕ → List ℕ
+halfIV-EEA3 COUNT BEARER DIRECTION = bytesOf COUNT ++ ((BEARER * 2 ^ 3 + DIRECTION * 2 ^ 2) ∷ 0 ∷ 0 ∷ 0 ∷ [])
+
+-- Document 01: a bearer keeps its low 5 bits, a direction its low bit
+unfoldable pub IV-EEA3 : ℕ → ℕ → ℕ → List ℕ
+IV-EEA3 count bearer direction =
+    halfIV-EEA3 count (bearer % 2 ^ 5) (direction % 2) ++ halfIV-EEA3 count (bearer % 2 ^ 5) (direction % 2)
+
+-- EEA3: OBS[i] = IBS[i] ⊕ z[i]
+abbrev pub OBS : (ℕ → ℕ) → (ℕ → ℕ) → ℕ → ℕ
+OBS IBS z i = IBS i ⊕ z i
+
+-- Document 01: byte j is xored with byte j mod 4, highest first, of word floor(j/4)
+unfoldable pub masked : (ℕ → ℕ) → ℕ → ℕ → ℕ
+masked words j byte = byte ⊕ byteOf (words (j / 4)) (j % 4)
+
+-- a byte with its k high bits kept and the others zeroed
+unfoldable pub keepHigh : ℕ → ℕ → ℕ
+keepHigh k byte = byte / 2 ^ (8 - k) * 2 ^ (8 - k)
+
+-- Document 01: how many high bits of byte j crate mode leaves at a bit length L. It zeroes the low 8 - (L mod 8) bits
+-- of byte floor(L/8) if L mod 8 is not 0, and every byte after byte floor(L/8)
+unfoldable pub keptByCrate : ℕ → ℕ → ℕ
+keptByCrate L j = if ltb (L / 8) j then 0 else if ltb j (L / 8) then 8 else if eqb (L % 8) 0 then 8 else L % 8
+
+-- Document 01: clean mode zeroes every bit at or past L
+unfoldable pub keptByClean : ℕ → ℕ → ℕ
+keptByClean L j = min 8 (L - j * 8)
+
+-- each byte of a buffer by f of its place and itself, the first place being j
+unfoldable pub eachFrom : (ℕ → ℕ → ℕ) → ℕ → List ℕ → List ℕ
+eachFrom f j [] = []
+eachFrom f j (byte ∷ rest) = f j byte ∷ eachFrom f (suc j) rest
+
+-- the buffer after masking, by what the mode keeps at the bit length
+unfoldable pub maskedBuffer : (ℕ → ℕ) → (ℕ → ℕ) → List ℕ → List ℕ
+maskedBuffer kept words buffer = eachFrom (λ j byte. keepHigh (kept j) (masked words j byte)) 0 buffer
+
+abbrev pub maskCrate : (ℕ → ℕ) → ℕ → List ℕ → List ℕ
+maskCrate words L buffer = maskedBuffer (keptByCrate L) words buffer
+
+abbrev pub maskClean : (ℕ → ℕ) → ℕ → List ℕ → List ℕ
+maskClean words L buffer = maskedBuffer (keptByClean L) words buffer
+
+-- Document 01: the words drawn over a buffer of n bytes, in both modes
+abbrev pub wordsToMask : ℕ → ℕ
+wordsToMask n = n / 4 + 1
