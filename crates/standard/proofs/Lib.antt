@@ -3,4 +3,8 @@ pub mod Window
 pub mod Each
 pub mod Kept
 pub mod Masking
+pub mod Table
+pub mod Permutation
+pub mod Cells
+pub mod Generator
 pub mod Examples
