@@ -22,10 +22,14 @@ pub keep-none : (byte : ℕ) → byte < 2 ^ 8 → keepHigh 0 byte ≡ 0
 unfolding keepHigh
 keep-none byte h = omega arith
 
+pub keep-le : (k byte : ℕ) → keepHigh k byte ≤ byte
+unfolding keepHigh
+keep-le k byte = omega (arith, split byte (8 - k))
+
 -- shifted down and up again in a wider number
 pub keep-shifted : (w k byte : ℕ) → byte < 2 ^ w → byte / 2 ^ (8 - k) * 2 ^ (8 - k) % 2 ^ w ≡ keepHigh k byte
 unfolding keepHigh
-keep-shifted w k byte h = mod-eq-of-lt (omega (arith, split byte (8 - k)))
+keep-shifted w k byte h = mod-eq-of-lt (omega (arith, keep-le k byte))
 
 -- a bit that is kept, and one that is not
 pub kept-bit : (k byte p : ℕ) → p < k → bitOf 8 (keepHigh k byte) p ≡ bitOf 8 byte p
