@@ -1,8 +1,7 @@
 -- What the inner functions clear.
-use mathlib.Core.List.{List}
 use Prim.Native.Nat.{ℕ}
 use lib.Dec.{ltb}
-use Rattle.standard.specs.Confidentiality.{eachFrom, keepHigh, keptByClean}
+use Rattle.standard.specs.Confidentiality.{keepHigh, keptByClean}
 use Rattle.standard.specs.Notation.{if_then_else_}
 
 -- a byte at a place, zeroed at and past another

@@ -1,6 +1,6 @@
 -- `xor_word`: at place j what is left to do is the mask from j on; a store does place j.
 use mathlib.Core.Path.{_≡_, refl, sym, ap, _∙_}
-use Prim.Native.Nat.{ℕ, _≤_, _<_, _-_, _%_}
+use Prim.Native.Nat.{ℕ, _≤_, _<_, _-_}
 use native.Mathlib.Nat.{mod-eq-of-lt}
 use native.Mathlib.Omega.{arith}
 use lib.ListN.{length, length-set, getD}
@@ -23,10 +23,11 @@ byte-masked word j byte k h e = ap (λ (x : ℕ). byte ⊕ x) (e ∙ ap (byteOf 
 
 loop-again : tie.Need-loop-again Inv-loop μ-loop
 loop-again c =
-    let l = c .before .before .before .loop in
-    (omega arith,
-    from-store _ _ _ (omega arith) (byte-masked _ (l .j) (getD (l .part) (l .j) 0) _ (omega arith) (c .before .byte-of .ensures)) ∙ l .inv .1,
-    simp length-set (omega arith))
+    let l = c .before .before .before .loop in (
+      omega arith,
+      from-store _ _ _ (omega arith) (byte-masked _ (l .j) (getD (l .part) (l .j) 0) _ (omega arith) (c .before .byte-of .ensures)) ∙ l .inv .1,
+      simp length-set (omega arith),
+    )
 
 returns : tie.Need-returns Inv-loop μ-loop
 returns c = sym (from-end _ _ _ (omega arith)) ∙ c .before .loop .inv .1 ∙ from-start _ _

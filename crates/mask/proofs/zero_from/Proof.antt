@@ -1,6 +1,6 @@
 -- `zero_from`: at place i what is left to do is to zero from i on; a store of 0 does place i.
 use mathlib.Core.Path.{_≡_, refl, sym, _∙_}
-use Prim.Native.Nat.{ℕ, _≤_, _<_, _-_}
+use Prim.Native.Nat.{_≤_, _-_}
 use native.Mathlib.Omega.{arith}
 use lib.ListN.{length, length-set}
 use Rattle.standard.proofs.Each.{doneFrom, from-same, from-end, from-store}
@@ -16,10 +16,11 @@ abbrev μ-loop : tie.MeasureT-loop
 μ-loop buf₀ from i₀ buf i = length buf₀ - i
 
 loop-again : tie.Need-loop-again Inv-loop μ-loop
-loop-again c =
-    (omega arith,
-    from-store _ _ _ (omega arith) (zeroed-past _ _ _ (c .before .loop .inv .0)) ∙ c .before .loop .inv .1,
-    simp length-set (omega arith))
+loop-again c = (
+  omega arith,
+  from-store _ _ _ (omega arith) (zeroed-past _ _ _ (c .before .loop .inv .0)) ∙ c .before .loop .inv .1,
+  simp length-set (omega arith),
+)
 
 returns : tie.Need-returns Inv-loop μ-loop
 returns c =

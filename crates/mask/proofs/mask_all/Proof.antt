@@ -1,0 +1,84 @@
+-- `mask_all`: at place i, a multiple of 4, i/4 words are drawn and the mask is left to do from i on; a lent part does its places.
+use mathlib.Core.Path.{_≡_, refl, sym, ap, _∙_}
+use Prim.Native.Nat.{ℕ, _+_, _/_, _%_, _≤_, _-_}
+use native.Mathlib.Omega.{arith}
+use lib.ListN.{length, length-take, length-drop}
+use denote.Ref.{now}
+use borrow.Author.Needs.{needs}
+use Rattle.standard.specs.Confidentiality.{masked}
+use Rattle.standard.specs.Generator.{after, wordAt}
+use Rattle.standard.proofs.Each.{doneFrom, from-start, from-end}
+use Rattle.standard.proofs.Generator.{after-none}
+use Rattle.zuc.specs.Reading.{Draw, stateOf}
+use Rattle.mask.proofs.Words.{part-masked, drawn-sound, drawn-word, drawn-next}
+use Rattle.mask.proofs.mask_all.Statement.{statement}
+use Rattle.mask.proofs.mask_all.Tie as tie
+
+abbrev Inv-loop : tie.InvT-loop
+Inv-loop t0 t1 buf₀ z₀ i₀ buf z i =
+    (i ≤ length buf₀)
+    × (i % 4 ≡ 0)
+    × (stateOf z ≡ after (i / 4) (stateOf z₀))
+    × (doneFrom (masked (wordAt (stateOf z₀))) i buf ≡ doneFrom (masked (wordAt (stateOf z₀))) 0 buf₀)
+    × (length buf ≡ length buf₀)
+
+abbrev μ-loop : tie.MeasureT-loop
+μ-loop t0 t1 buf₀ z₀ i₀ buf z i = length buf₀ - i
+
+loop-holds : tie.Need-loop-holds Inv-loop μ-loop
+loop-holds c = (omega arith, refl, sym (after-none _), refl, refl)
+
+draw-requires : tie.Need-draw-requires Inv-loop μ-loop
+draw-requires c κs =
+    let s = c .before .before .before in
+    (s .pre .0, (s .pre .1 .0, drawn-sound _ _ _ (c .before .loop .inv .2) (s .pre .1 .1)))
+
+xor-word-requires : tie.Need-xor-word-requires Inv-loop μ-loop
+xor-word-requires c κs = simp length-take (omega arith)
+
+loop-again : tie.Need-loop-again Inv-loop μ-loop
+loop-again c =
+    let d = c .before .before .before .before .before in
+    let l = d .before .before in
+    let σ = stateOf (l .before .before .args .start) in
+    let e : l .loop .i / 4 + 1 ≡ (l .loop .i + 4) / 4 = omega arith in (
+      omega arith,
+      omega arith,
+      ap (λ (x : Draw). x .state) (d .draw .ensures) ∙ drawn-next (l .loop .i / 4) σ _ (l .loop .inv .2) ∙ ap (λ (n : ℕ). after n σ) e,
+      part-masked (wordAt σ) (l .loop .i) (l .loop .i + 4) _ (l .loop .buf) _ (l .loop .inv .1)
+          (ap (λ (x : Draw). x .word) (d .draw .ensures) ∙ drawn-word (l .loop .i / 4) σ _ (l .loop .inv .2)) (omega arith) (omega arith) (omega arith)
+          (c .before .before .before .xor-word .ensures)
+          ∙ l .loop .inv .3,
+      omega arith,
+    )
+
+draw-requires-2 : tie.Need-draw-requires-2 Inv-loop μ-loop
+draw-requires-2 c κs =
+    let s = c .before .before .before in
+    (s .pre .0, (s .pre .1 .0, drawn-sound _ _ _ (c .before .loop .inv .2) (s .pre .1 .1)))
+
+xor-word-requires-2 : tie.Need-xor-word-requires-2 Inv-loop μ-loop
+xor-word-requires-2 c κs = simp (length-take, length-drop) (omega arith)
+
+returns : tie.Need-returns Inv-loop μ-loop
+returns c =
+    let d = c .before .before .before .before .before in
+    let l = d .before .before in
+    let σ = stateOf (l .before .before .args .start) in
+    let n = length (l .loop .buf) in
+    let e : l .loop .i / 4 + 1 ≡ length (now (l .before .before .args .buf)) / 4 + 1 = omega arith in (
+      ap (λ (x : Draw). x .state) (d .draw2 .ensures) ∙ drawn-next (l .loop .i / 4) σ _ (l .loop .inv .2) ∙ ap (λ (n : ℕ). after n σ) e,
+      sym (from-end (masked (wordAt σ)) n _ (omega arith))
+          ∙ part-masked (wordAt σ) (l .loop .i) n _ (l .loop .buf) _ (l .loop .inv .1)
+          (ap (λ (x : Draw). x .word) (d .draw2 .ensures) ∙ drawn-word (l .loop .i / 4) σ _ (l .loop .inv .2)) (omega arith) (omega arith) (omega arith)
+          (c .before .before .before .xor-word2 .ensures)
+          ∙ l .loop .inv .3
+          ∙ from-start _ _,
+    )
+
+pub mask-all-spec : {M : Type 1} → statement M
+mask-all-spec =
+    tie.close
+    (tie.spec Inv-loop μ-loop loop-holds (λ c. omega arith) draw-requires (λ c. omega arith) (λ c. omega arith) (λ c. search needs) (λ c. search needs)
+    xor-word-requires (λ c. omega arith) loop-again draw-requires-2 (λ c. omega arith) (λ c. search needs) (λ c. search needs) xor-word-requires-2
+    (λ c. omega arith) returns)
