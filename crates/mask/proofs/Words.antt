@@ -6,7 +6,7 @@ use native.Mathlib.Numerals.{add-one}
 use native.Mathlib.Omega.{arith}
 use lib.ListN.{length, getD, take, drop, length-take}
 use Rattle.standard.specs.Confidentiality.{eachFrom, masked, byteOf}
-use Rattle.standard.specs.Generator.{State, after, wordAt, word, next}
+use Rattle.standard.specs.Generator.{State, F, W, X₃, Z, after, wordAt, word, workStep, next}
 use Rattle.standard.specs.Notation.{_⊕_}
 use Rattle.standard.proofs.Each.{each-ext, doneFrom, from-lent}
 use Rattle.standard.proofs.Generator.{Sound, sound-after, after-more, word-after}
@@ -29,6 +29,15 @@ part-masked words i e w l ys whole at a b short m =
 
     place : (j byte : ℕ) → j < 4 → masked (λ n. w) (0 + j) byte ≡ masked words (i + j) byte
     place j byte h = ap₂ (λ (x y : ℕ). byte ⊕ byteOf x y) (at ∙ ap words (omega arith)) (omega arith)
+
+-- a draw in its parts, from the stepped state
+pub parts-word : (τ m : State) → m ≡ workStep τ → W m ⊕ X₃ (m .cells) ≡ word τ
+unfolding word Z
+parts-word τ m e = ap Z e
+
+pub parts-next : (τ m : State) → m ≡ workStep τ → F m ≡ next τ
+unfolding next
+parts-next τ m e = ap F e
 
 -- the state before draw number n, the word that it gives, and the state after it
 module _ (n : ℕ) (σ τ : State) (e : τ ≡ after n σ) where

@@ -80,10 +80,12 @@ fn mask_all(t0: &[u8; 256], t1: &[u8; 256], start: Zuc, buf: &mut [u8]) -> Zuc
     let mut z = start;
     let mut i: usize = 0;
     while 4 <= buf.len() - i {
-        let drawn = zuc::draw(t0, t1, z);
+        // A draw in its parts, which are inlined here as a whole draw is not.
+        let moved = zuc::shift(z);
+        let out = zuc::f(t0, t1, moved);
         let e = i + 4;
-        xor_word(drawn.word, &mut buf[i..e]);
-        let next = drawn.next;
+        xor_word(out.word ^ zuc::x3(moved), &mut buf[i..e]);
+        let next = out.next;
         z = next;
         i = e;
     }

@@ -1,5 +1,5 @@
 -- `mask_all`: at place i, a multiple of 4, i/4 words are drawn and the mask is left to do from i on; a lent part does its places.
-use mathlib.Core.Path.{_≡_, refl, sym, ap, _∙_}
+use mathlib.Core.Path.{_≡_, refl, sym, ap, ap₂, _∙_}
 use Prim.Native.Nat.{ℕ, _+_, _/_, _%_, _≤_, _-_}
 use native.Mathlib.Omega.{arith}
 use lib.ListN.{length, length-take, length-drop}
@@ -7,10 +7,11 @@ use denote.Ref.{now}
 use borrow.Author.Needs.{needs}
 use Rattle.standard.specs.Confidentiality.{masked}
 use Rattle.standard.specs.Generator.{after, wordAt}
+use Rattle.standard.specs.Notation.{_⊕_}
 use Rattle.standard.proofs.Each.{doneFrom, from-start, from-end}
 use Rattle.standard.proofs.Generator.{after-none}
 use Rattle.zuc.specs.Reading.{Draw, stateOf}
-use Rattle.mask.proofs.Words.{part-masked, drawn-sound, drawn-word, drawn-next}
+use Rattle.mask.proofs.Words.{part-masked, parts-word, parts-next, drawn-sound, drawn-word, drawn-next}
 use Rattle.mask.proofs.mask_all.Statement.{statement}
 use Rattle.mask.proofs.mask_all.Tie as tie
 
@@ -28,32 +29,36 @@ abbrev μ-loop : tie.MeasureT-loop
 loop-holds : tie.Need-loop-holds Inv-loop μ-loop
 loop-holds c = (omega arith, refl, sym (after-none _), refl, refl)
 
-draw-requires : tie.Need-draw-requires Inv-loop μ-loop
-draw-requires c κs =
-    let s = c .before .before .before in
-    (s .pre .0, (s .pre .1 .0, drawn-sound _ _ _ (c .before .loop .inv .2) (s .pre .1 .1)))
+shift-requires : tie.Need-shift-requires Inv-loop μ-loop
+shift-requires c κs = drawn-sound _ _ _ (c .before .loop .inv .2) (c .before .before .before .pre .1 .1)
+
+f-requires : tie.Need-f-requires Inv-loop μ-loop
+f-requires c κs =
+    let s = c .before .before .before .before in
+    (s .pre .0, s .pre .1 .0)
 
 xor-word-requires : tie.Need-xor-word-requires Inv-loop μ-loop
 xor-word-requires c κs = simp length-take (omega arith)
 
 loop-again : tie.Need-loop-again Inv-loop μ-loop
 loop-again c =
-    let d = c .before .before .before .before .before in
-    let l = d .before .before in
+    let x = c .before .before .before .before .before .before in
+    let l = x .before .before .before .before in
     let σ = stateOf (l .before .before .args .start) in
-    let e : l .loop .i / 4 + 1 ≡ (l .loop .i + 4) / 4 = omega arith in (
-      omega arith,
-      omega arith,
-      ap (λ (x : Draw). x .state) (d .draw .ensures) ∙ drawn-next (l .loop .i / 4) σ _ (l .loop .inv .2) ∙ ap (λ (n : ℕ). after n σ) e,
-      part-masked (wordAt σ) (l .loop .i) (l .loop .i + 4) _ (l .loop .buf) _ (l .loop .inv .1)
-          (ap (λ (x : Draw). x .word) (d .draw .ensures) ∙ drawn-word (l .loop .i / 4) σ _ (l .loop .inv .2)) (omega arith) (omega arith) (omega arith)
-          (c .before .before .before .xor-word .ensures)
-          ∙ l .loop .inv .3,
-      omega arith,
-    )
+    let moved = x .before .before .shift .ensures in
+    let out = x .before .f .ensures in
+    let e : l .loop .i / 4 + 1 ≡ (l .loop .i + 4) / 4 = omega arith in
+    (omega arith,
+    omega arith,
+    ap (λ (d : Draw). d .state) out ∙ parts-next _ _ moved ∙ drawn-next (l .loop .i / 4) σ _ (l .loop .inv .2) ∙ ap (λ (n : ℕ). after n σ) e,
+    part-masked (wordAt σ) (l .loop .i) (l .loop .i + 4) _ (l .loop .buf) _ (l .loop .inv .1)
+    (ap₂ _⊕_ (ap (λ (d : Draw). d .word) out) (x .x3 .ensures) ∙ parts-word _ _ moved ∙ drawn-word (l .loop .i / 4) σ _ (l .loop .inv .2))
+    (omega arith) (omega arith) (omega arith) (c .before .before .before .xor-word .ensures)
+    ∙ l .loop .inv .3,
+    omega arith)
 
-draw-requires-2 : tie.Need-draw-requires-2 Inv-loop μ-loop
-draw-requires-2 c κs =
+draw-requires : tie.Need-draw-requires Inv-loop μ-loop
+draw-requires c κs =
     let s = c .before .before .before in
     (s .pre .0, (s .pre .1 .0, drawn-sound _ _ _ (c .before .loop .inv .2) (s .pre .1 .1)))
 
@@ -67,10 +72,10 @@ returns c =
     let σ = stateOf (l .before .before .args .start) in
     let n = length (l .loop .buf) in
     let e : l .loop .i / 4 + 1 ≡ length (now (l .before .before .args .buf)) / 4 + 1 = omega arith in (
-      ap (λ (x : Draw). x .state) (d .draw2 .ensures) ∙ drawn-next (l .loop .i / 4) σ _ (l .loop .inv .2) ∙ ap (λ (n : ℕ). after n σ) e,
+      ap (λ (d : Draw). d .state) (d .draw .ensures) ∙ drawn-next (l .loop .i / 4) σ _ (l .loop .inv .2) ∙ ap (λ (n : ℕ). after n σ) e,
       sym (from-end (masked (wordAt σ)) n _ (omega arith))
           ∙ part-masked (wordAt σ) (l .loop .i) n _ (l .loop .buf) _ (l .loop .inv .1)
-          (ap (λ (x : Draw). x .word) (d .draw2 .ensures) ∙ drawn-word (l .loop .i / 4) σ _ (l .loop .inv .2)) (omega arith) (omega arith) (omega arith)
+          (ap (λ (d : Draw). d .word) (d .draw .ensures) ∙ drawn-word (l .loop .i / 4) σ _ (l .loop .inv .2)) (omega arith) (omega arith) (omega arith)
           (c .before .before .before .xor-word2 .ensures)
           ∙ l .loop .inv .3
           ∙ from-start _ _,
@@ -79,6 +84,6 @@ returns c =
 pub mask-all-spec : {M : Type 1} → statement M
 mask-all-spec =
     tie.close
-    (tie.spec Inv-loop μ-loop loop-holds (λ c. omega arith) draw-requires (λ c. omega arith) (λ c. omega arith) (λ c. search needs) (λ c. search needs)
-    xor-word-requires (λ c. omega arith) loop-again draw-requires-2 (λ c. omega arith) (λ c. search needs) (λ c. search needs) xor-word-requires-2
-    (λ c. omega arith) returns)
+    (tie.spec Inv-loop μ-loop loop-holds (λ c. omega arith) shift-requires f-requires (λ c. omega arith) (λ c κs. search needs) (λ c. omega arith)
+    (λ c. search needs) (λ c. search needs) xor-word-requires (λ c. omega arith) loop-again draw-requires (λ c. omega arith) (λ c. search needs)
+    (λ c. search needs) xor-word-requires-2 (λ c. omega arith) returns)
