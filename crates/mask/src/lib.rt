@@ -25,8 +25,20 @@ pub struct Masked {
     pub state: Zuc,
 }
 
-// A part of at most four bytes, xored with the bytes of a word.
+// Four bytes, xored with a word as one number: one load and one store.
 fn xor_word(word: u32, part: &mut [u8])
+    requires { ⌜ length (now part) ≡ 4 ⌝ }
+    ensures { λ _. ⌜ now (part .exit) ≡ eachFrom (masked (λ n. word)) 0 (now (part .entry)) ⌝ }
+{
+    let x = words::word_of(part[0], part[1], part[2], part[3]) ^ word;
+    part[0] = words::byte_of(x, 0);
+    part[1] = words::byte_of(x, 1);
+    part[2] = words::byte_of(x, 2);
+    part[3] = words::byte_of(x, 3);
+}
+
+// At most four bytes, xored with the first bytes of a word.
+fn xor_rest(word: u32, part: &mut [u8])
     requires { ⌜ length (now part) ≤ 4 ⌝ }
     ensures { λ _. ⌜ now (part .exit) ≡ eachFrom (masked (λ n. word)) 0 (now (part .entry)) ⌝ }
 {
@@ -90,7 +102,7 @@ fn mask_all(t0: &[u8; 256], t1: &[u8; 256], start: Zuc, buf: &mut [u8]) -> Zuc
         i = e;
     }
     let last = zuc::draw(t0, t1, z);
-    xor_word(last.word, &mut buf[i..]);
+    xor_rest(last.word, &mut buf[i..]);
     last.next
 }
 

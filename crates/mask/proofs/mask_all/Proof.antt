@@ -7,7 +7,6 @@ use denote.Ref.{now}
 use borrow.Author.Needs.{needs}
 use Rattle.standard.specs.Confidentiality.{masked}
 use Rattle.standard.specs.Generator.{after, wordAt}
-use Rattle.standard.specs.Notation.{_⊕_}
 use Rattle.standard.proofs.Each.{doneFrom, from-start, from-end}
 use Rattle.standard.proofs.Generator.{after-none}
 use Rattle.zuc.specs.Reading.{Draw, stateOf}
@@ -38,7 +37,7 @@ f-requires c κs =
     (s .pre .0, s .pre .1 .0)
 
 xor-word-requires : tie.Need-xor-word-requires Inv-loop μ-loop
-xor-word-requires c κs = simp length-take (omega arith)
+xor-word-requires c κs = simp (length-take, length-drop) (omega arith)
 
 loop-again : tie.Need-loop-again Inv-loop μ-loop
 loop-again c =
@@ -47,23 +46,24 @@ loop-again c =
     let σ = stateOf (l .before .before .args .start) in
     let moved = x .before .before .shift .ensures in
     let out = x .before .f .ensures in
-    let e : l .loop .i / 4 + 1 ≡ (l .loop .i + 4) / 4 = omega arith in
-    (omega arith,
-    omega arith,
-    ap (λ (d : Draw). d .state) out ∙ parts-next _ _ moved ∙ drawn-next (l .loop .i / 4) σ _ (l .loop .inv .2) ∙ ap (λ (n : ℕ). after n σ) e,
-    part-masked (wordAt σ) (l .loop .i) (l .loop .i + 4) _ (l .loop .buf) _ (l .loop .inv .1)
-    (ap₂ _⊕_ (ap (λ (d : Draw). d .word) out) (x .x3 .ensures) ∙ parts-word _ _ moved ∙ drawn-word (l .loop .i / 4) σ _ (l .loop .inv .2))
-    (omega arith) (omega arith) (omega arith) (c .before .before .before .xor-word .ensures)
-    ∙ l .loop .inv .3,
-    omega arith)
+    let e : l .loop .i / 4 + 1 ≡ (l .loop .i + 4) / 4 = omega arith in (
+      omega arith,
+      omega arith,
+      ap (λ (d : Draw). d .state) out ∙ parts-next _ _ moved ∙ drawn-next (l .loop .i / 4) σ _ (l .loop .inv .2) ∙ ap (λ (n : ℕ). after n σ) e,
+      part-masked (wordAt σ) (l .loop .i) (l .loop .i + 4) _ (l .loop .buf) _ (l .loop .inv .1)
+          (ap₂ _⊕_ (ap (λ (d : Draw). d .word) out) (x .x3 .ensures) ∙ parts-word _ _ moved ∙ drawn-word (l .loop .i / 4) σ _ (l .loop .inv .2))
+          (omega arith) (omega arith) (omega arith) (c .before .before .before .xor-word .ensures)
+          ∙ l .loop .inv .3,
+      omega arith,
+    )
 
 draw-requires : tie.Need-draw-requires Inv-loop μ-loop
 draw-requires c κs =
     let s = c .before .before .before in
     (s .pre .0, (s .pre .1 .0, drawn-sound _ _ _ (c .before .loop .inv .2) (s .pre .1 .1)))
 
-xor-word-requires-2 : tie.Need-xor-word-requires-2 Inv-loop μ-loop
-xor-word-requires-2 c κs = simp (length-take, length-drop) (omega arith)
+xor-rest-requires : tie.Need-xor-rest-requires Inv-loop μ-loop
+xor-rest-requires c κs = simp (length-take, length-drop) (omega arith)
 
 returns : tie.Need-returns Inv-loop μ-loop
 returns c =
@@ -76,7 +76,7 @@ returns c =
       sym (from-end (masked (wordAt σ)) n _ (omega arith))
           ∙ part-masked (wordAt σ) (l .loop .i) n _ (l .loop .buf) _ (l .loop .inv .1)
           (ap (λ (d : Draw). d .word) (d .draw .ensures) ∙ drawn-word (l .loop .i / 4) σ _ (l .loop .inv .2)) (omega arith) (omega arith) (omega arith)
-          (c .before .before .before .xor-word2 .ensures)
+          (c .before .before .before .xor-rest .ensures)
           ∙ l .loop .inv .3
           ∙ from-start _ _,
     )
@@ -86,4 +86,4 @@ mask-all-spec =
     tie.close
     (tie.spec Inv-loop μ-loop loop-holds (λ c. omega arith) shift-requires f-requires (λ c. omega arith) (λ c κs. search needs) (λ c. omega arith)
     (λ c. search needs) (λ c. search needs) xor-word-requires (λ c. omega arith) loop-again draw-requires (λ c. omega arith) (λ c. search needs)
-    (λ c. search needs) xor-word-requires-2 (λ c. omega arith) returns)
+    (λ c. search needs) xor-rest-requires (λ c. omega arith) returns)

@@ -1,39 +1,34 @@
--- `xor_word`: at place j what is left to do is the mask from j on; a store does place j.
-use mathlib.Core.Path.{_≡_, refl, sym, ap, _∙_}
-use Prim.Native.Nat.{ℕ, _≤_, _<_, _-_}
-use native.Mathlib.Nat.{mod-eq-of-lt}
+-- `xor_word`: a byte of the whole word's xor is the byte's own.
+use mathlib.Core.Path.{_≡_, ap, _∙_}
+use Prim.Native.Nat.{ℕ, _<_, _^_}
 use native.Mathlib.Omega.{arith}
-use lib.ListN.{length, length-set, getD}
-use Rattle.standard.specs.Notation.{_⊕_}
+use lib.ListN.{getD}
+use denote.Ref.{now}
+use borrow.Author.Needs.{needs}
 use Rattle.standard.specs.Confidentiality.{byteOf, masked}
-use Rattle.standard.proofs.Each.{doneFrom, from-start, from-end, from-store}
+use Rattle.standard.specs.Notation.{_⊕_}
+use Rattle.mask.proofs.Words.{joined, byte-masked, four-stored}
 use Rattle.mask.proofs.xor_word.Statement.{statement}
 use Rattle.mask.proofs.xor_word.Tie as tie
 
-abbrev Inv-loop : tie.InvT-loop
-Inv-loop word part₀ j₀ part j = (j ≤ length part₀) × (doneFrom (masked (λ n. word)) j part ≡ doneFrom (masked (λ n. word)) 0 part₀) × (length part ≡ length part₀)
-
-abbrev μ-loop : tie.MeasureT-loop
-μ-loop word part₀ j₀ part j = length part₀ - j
-
--- a place below 4 is its own place in the word
-byte-masked : (word j byte k : ℕ) → j < 4 → k ≡ byteOf word j → byte ⊕ k ≡ masked (λ n. word) j byte
-unfolding masked
-byte-masked word j byte k h e = ap (λ (x : ℕ). byte ⊕ x) (e ∙ ap (byteOf word) (sym (mod-eq-of-lt h)))
-
-loop-again : tie.Need-loop-again Inv-loop μ-loop
-loop-again c =
-    let l = c .before .before .before .loop in (
-      omega arith,
-      from-store _ _ _ (omega arith) (byte-masked _ (l .j) (getD (l .part) (l .j) 0) _ (omega arith) (c .before .byte-of .ensures)) ∙ l .inv .1,
-      simp length-set (omega arith),
-    )
-
-returns : tie.Need-returns Inv-loop μ-loop
-returns c = sym (from-end _ _ _ (omega arith)) ∙ c .before .loop .inv .1 ∙ from-start _ _
+returns : tie.Need-returns
+returns c =
+    let x = c .before .before .before .before in
+    let s = x .before .before .before .before .before in
+    let a = s .before .args in
+    let byte : ℕ → ℕ = λ i. getD (now (a .part)) i 0 in
+    let low : (i : ℕ) → byte i < 2 ^ 8 = λ i. omega (arith, s .slice-known .given i) in
+    let whole = joined (byte 0) (byte 1) (byte 2) (byte 3) (low 0) (low 1) (low 2) (low 3) in
+    let word = x .word-of .result in
+    let at : (j : ℕ) → j < 4 → byteOf _ j ≡ byte j → byteOf (word ⊕ a .word) j ≡ masked (λ n. a .word) j (byte j) =
+    λ j h e. byte-masked (a .word) word j (byte j) h (ap (λ (y : ℕ). byteOf y j) (x .word-of .ensures) ∙ e) in
+    four-stored (masked (λ n. a .word)) (now (a .part)) _ _ _ _ (s .before .pre) (c .before .before .before .byte-of .ensures ∙ at 0 (omega arith) (whole .0))
+    (c .before .before .byte-of2 .ensures ∙ at 1 (omega arith) (whole .1)) (c .before .byte-of3 .ensures ∙ at 2 (omega arith) (whole .2))
+    (c .byte-of4 .ensures ∙ at 3 (omega arith) (whole .3))
 
 pub xor-word-spec : {M : Type 1} → statement M
 xor-word-spec =
     tie.close
-    (tie.spec Inv-loop μ-loop (λ c. (omega arith, refl, refl)) (λ c κs. omega arith) (λ c. omega arith) (λ c. omega arith) (λ c. omega arith)
-    (λ c. omega arith) loop-again (λ c. omega arith) returns)
+    (tie.spec (λ c. search needs) (λ c. search needs) (λ c. search needs) (λ c. search needs) (λ c κs. search needs) (λ c κs. search needs)
+    (λ c. search needs) (λ c κs. search needs) (λ c. search needs) (λ c κs. search needs) (λ c. search needs) (λ c κs. search needs) (λ c. search needs)
+    (λ c. search needs) returns)
