@@ -7,4 +7,5 @@ pub mod Table
 pub mod Permutation
 pub mod Cells
 pub mod Generator
+pub mod Listed
 pub mod Examples
