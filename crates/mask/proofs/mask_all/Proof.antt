@@ -7,6 +7,7 @@ use denote.Ref.{now}
 use borrow.Author.Needs.{needs}
 use Rattle.standard.specs.Confidentiality.{masked}
 use Rattle.standard.specs.Generator.{after, wordAt}
+use Rattle.standard.specs.Notation.{_⊕_}
 use Rattle.standard.proofs.Each.{doneFrom, from-start, from-end}
 use Rattle.standard.proofs.Generator.{after-none}
 use Rattle.zuc.specs.Reading.{Draw, stateOf}
