@@ -138,10 +138,11 @@ fn mask(start: Zuc, buf: &mut [u8], bits: usize, kept: usize) -> Masked
 pub fn mask_crate(state: Zuc, buf: &mut [u8], bits: usize) -> Masked
     ensures { λ r. ⌜ told r (now (buf .exit)) ≡ crateOutcome (stateOf state) bits (now (buf .entry)) ⌝ }
 {
-    if bits % 8 == 0 {
+    let part = bits % 8;
+    if part == 0 {
         return mask(state, buf, bits, 8);
     }
-    mask(state, buf, bits, bits % 8)
+    mask(state, buf, bits, part)
 }
 
 // Every bit at or past the length is zeroed.
