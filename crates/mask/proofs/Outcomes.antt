@@ -1,40 +1,33 @@
--- An outcome by the two tests: which refusal, or the mask; and both modes' as clean masks.
+-- An outcome by the two tests: which refusal, or the mask; and each mode's outcome as the inner function's.
 use mathlib.Core.Bool.{true, false}
 use mathlib.Core.List.{List}
 use mathlib.Core.Path.{_≡_, refl, sym, ap, _∙_}
-use Prim.Native.Nat.{ℕ, _+_, _*_, _/_}
+use Prim.Native.Nat.{ℕ, _*_}
 use lib.Dec.{leb}
 use lib.ListN.{length}
 use Rattle.standard.specs.Confidentiality.{maskClean, wordsToMask}
-use Rattle.standard.specs.Generator.{State, wellFormed, after, wordAt}
+use Rattle.standard.specs.Generator.{State, wellFormed, wordAt}
 use Rattle.standard.proofs.Kept.{crateEnd}
 use Rattle.standard.proofs.Masking.{crate-clean}
-use Rattle.mask.specs.Outcome.{refused, outcomeOf, crateOutcome, cleanOutcome}
+use Rattle.mask.specs.Outcome.{Outcome, refused, drawn, checked, crateOutcome, cleanOutcome, outcomeTo}
 
-module _ (drawn : ℕ) (maskedOne : List ℕ) (σ : State) (L : ℕ) (buffer : List ℕ) where
-  pub malformed : wellFormed (σ .cells) ≡ false → refused 4 σ buffer ≡ outcomeOf drawn maskedOne σ L buffer
-  unfolding outcomeOf
-  malformed w = rw w refl
+module _ (σ : State) (L : ℕ) (buffer : List ℕ) where
+  pub malformed : (o : Outcome) → wellFormed (σ .cells) ≡ false → refused 4 σ buffer ≡ checked σ L buffer o
+  unfolding checked
+  malformed o w = rw w refl
 
-  pub too-long : wellFormed (σ .cells) ≡ true → leb L (length buffer * 8) ≡ false → refused 5 σ buffer ≡ outcomeOf drawn maskedOne σ L buffer
-  unfolding outcomeOf
-  too-long w l = rw (w, l) refl
+  pub too-long : (o : Outcome) → wellFormed (σ .cells) ≡ true → leb L (length buffer * 8) ≡ false → refused 5 σ buffer ≡ checked σ L buffer o
+  unfolding checked
+  too-long o w l = rw (w, l) refl
 
-  pub accepted : {τ : State} {exit : List ℕ} → wellFormed (σ .cells) ≡ true → leb L (length buffer * 8) ≡ true → τ ≡ after drawn σ → exit ≡ maskedOne
-      → record { number = 0; count = drawn; state = τ; buffer = exit } ≡ outcomeOf drawn maskedOne σ L buffer
-  unfolding outcomeOf
-  accepted w l s b = rw (w, l) (λ i. record { number = 0; count = drawn; state = s i; buffer = b i })
+  pub accepted : (o : Outcome) {told : Outcome} → wellFormed (σ .cells) ≡ true → leb L (length buffer * 8) ≡ true → told ≡ o → told ≡ checked σ L buffer o
+  unfolding checked
+  accepted o w l e = rw (w, l) e
 
--- a clean mask of floor(L/8) bytes and k bits
-module _ (σ : State) (L : ℕ) (buffer : List ℕ) (k : ℕ) where
-  abbrev whole-and-part : ℕ → List ℕ
-  whole-and-part end = maskClean (wordAt σ) end buffer
+  pub clean-mode : (end : ℕ) → end ≡ L → outcomeTo end σ L buffer ≡ cleanOutcome σ L buffer
+  clean-mode end e = ap (λ (x : ℕ). outcomeTo x σ L buffer) e
 
-  pub clean-mode : L / 8 * 8 + k ≡ L
-      → outcomeOf (wordsToMask (length buffer)) (whole-and-part (L / 8 * 8 + k)) σ L buffer ≡ cleanOutcome σ L buffer
-  clean-mode e = ap (λ (end : ℕ). outcomeOf (wordsToMask (length buffer)) (whole-and-part end) σ L buffer) e
-
-  pub crate-mode : L / 8 * 8 + k ≡ crateEnd L
-      → outcomeOf (wordsToMask (length buffer)) (whole-and-part (L / 8 * 8 + k)) σ L buffer ≡ crateOutcome σ L buffer
-  crate-mode e =
-      ap (λ (b : List ℕ). outcomeOf (wordsToMask (length buffer)) b σ L buffer) (ap whole-and-part e ∙ sym (crate-clean (wordAt σ) L buffer))
+  pub crate-mode : (end : ℕ) → end ≡ crateEnd L → outcomeTo end σ L buffer ≡ crateOutcome σ L buffer
+  crate-mode end e =
+      ap (λ (b : List ℕ). checked σ L buffer (drawn (wordsToMask (length buffer)) σ b))
+      (ap (λ (x : ℕ). maskClean (wordAt σ) x buffer) e ∙ sym (crate-clean (wordAt σ) L buffer))

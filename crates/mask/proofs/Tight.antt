@@ -7,14 +7,13 @@ use denote.Ref.{now}
 use denote.Triple.Clauses.{AtExit}
 use mathlib.Core.List.{List}
 use mathlib.Core.Path.{_≡_, refl, sym, ap, _∙_}
-use Prim.Native.Nat.{ℕ}
-use native.Mathlib.Omega.{arith}
-use Rattle.zuc.specs.declared.Zuc.{Zuc}
-use Rattle.zuc.specs.Reading.{stateOf}
+use Prim.Native.Nat.{ℕ, zero, suc}
+use lib.Dec.{eqb}
+use Rattle.standard.specs.Notation.{if_then_else_}
 use Rattle.mask.specs.declared.MaskAnswer.{MaskAnswer}
 use Rattle.mask.specs.declared.MaskAnswer.the-variants.{Done, Malformed, TooLong}
 use Rattle.mask.specs.declared.Masked.{Masked}
-use Rattle.mask.specs.Outcome.{Outcome, told, numberOf, countOf}
+use Rattle.mask.specs.Outcome.{told, numberOf, countOf}
 use Rattle.mask.proofs.mask_crate.Reads as crate-reads
 use Rattle.mask.proofs.mask_crate.Kinds as crate-kinds
 use Rattle.mask.proofs.mask_crate as crate-call
@@ -22,30 +21,26 @@ use Rattle.mask.proofs.mask_clean.Reads as clean-reads
 use Rattle.mask.proofs.mask_clean.Kinds as clean-kinds
 use Rattle.mask.proofs.mask_clean as clean-call
 
--- refusal number and count say which answer it is
-same-answer : (a b : MaskAnswer) → numberOf a ≡ numberOf b → countOf a ≡ countOf b → a ≡ b
-same-answer (Done m) (Done n) e f = ap Done f
-same-answer (Done m) Malformed e f = absurd (omega arith)
-same-answer (Done m) TooLong e f = absurd (omega arith)
-same-answer Malformed (Done n) e f = absurd (omega arith)
-same-answer Malformed Malformed e f = refl
-same-answer Malformed TooLong e f = absurd (omega arith)
-same-answer TooLong (Done n) e f = absurd (omega arith)
-same-answer TooLong Malformed e f = absurd (omega arith)
-same-answer TooLong TooLong e f = refl
+-- the answer that a number and a count stand for
+answerOf : ℕ → ℕ → MaskAnswer
+answerOf zero count = Done count
+answerOf (suc n) count = if eqb n 3 then Malformed else TooLong
 
--- a state is all that is read of it
-same-state : (z z′ : Zuc) → stateOf z ≡ stateOf z′ → z ≡ z′
-same-state z z′ e = λ i. record { s = e i .cells; r1 = e i .R₁; r2 = e i .R₂ }
+answer-back : (a : MaskAnswer) → answerOf (numberOf a) (countOf a) ≡ a
+unfolding answerOf
+answer-back (Done n) = refl
+answer-back Malformed = refl
+answer-back TooLong = refl
 
+-- what is told tells what is returned
 told-all : (r r′ : Masked) (b b′ : List ℕ) → told r b ≡ told r′ b′ → (r ≡ r′) × (b ≡ b′)
-told-all r r′ b b′ e = (λ i. record { answer = answer i; state = state i }, ap (λ (o : Outcome). o .buffer) e)
-  where
-    answer : r .answer ≡ r′ .answer
-    answer = same-answer (r .answer) (r′ .answer) (ap (λ (o : Outcome). o .number) e) (ap (λ (o : Outcome). o .count) e)
-
-    state : r .state ≡ r′ .state
-    state = same-state (r .state) (r′ .state) (ap (λ (o : Outcome). o .state) e)
+told-all r r′ b b′ e = (
+  λ i. record {
+    answer = (sym (answer-back (r .answer)) ∙ ap (λ o. answerOf (o .number) (o .count)) e ∙ answer-back (r′ .answer)) i;
+    state = record { s = e i .state .cells; r1 = e i .state .R₁; r2 = e i .state .R₂ };
+  },
+  λ i. e i .buffer,
+)
 
 pub mask-crate-tight : (κs : Lfts 1) (a : ArgsD crate-call.signature κs) (r r′ : ResD crate-call.signature κs)
     (s s′ : AtExit (endedOf 1 crate-kinds.ps crate-kinds.r) κs)

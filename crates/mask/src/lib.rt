@@ -3,9 +3,9 @@ ghost use mathlib.Core.Path.{_≡_};
 ghost use Prim.Native.Nat.{_≤_, _*_, _+_, _/_};
 ghost use lib.ListN.{length};
 ghost use Rattle.mask.specs.Clearing.{zeroed, cleared};
-ghost use Rattle.mask.specs.Outcome.{told, outcomeOf, crateOutcome, cleanOutcome};
+ghost use Rattle.mask.specs.Outcome.{told, outcomeTo, crateOutcome, cleanOutcome};
 ghost use Rattle.standard.specs.Boxes.{S₀-table, S₁-table};
-ghost use Rattle.standard.specs.Confidentiality.{eachFrom, keepHigh, masked, maskClean, wordsToMask};
+ghost use Rattle.standard.specs.Confidentiality.{eachFrom, keepHigh, masked, wordsToMask};
 ghost use Rattle.standard.specs.Generator.{Cells, after, wordAt};
 ghost use Rattle.zuc.specs.Reading.{stateOf};
 use zuc::Zuc;
@@ -109,7 +109,7 @@ fn mask_all(t0: &[u8; 256], t1: &[u8; 256], start: Zuc, buf: &mut [u8]) -> Zuc
 // Both modes: they differ in how many high bits of byte floor(bits/8) are kept.
 fn mask(start: Zuc, buf: &mut [u8], bits: usize, kept: usize) -> Masked
     requires { ⌜ kept ≤ 8 ⌝ }
-    ensures { λ r. ⌜ told r (now (buf .exit)) ≡ outcomeOf (wordsToMask (length (now (buf .entry)))) (maskClean (wordAt (stateOf start)) (bits / 8 * 8 + kept) (now (buf .entry))) (stateOf start) bits (now (buf .entry)) ⌝ }
+    ensures { λ r. ⌜ told r (now (buf .exit)) ≡ outcomeTo (bits / 8 * 8 + kept) (stateOf start) bits (now (buf .entry)) ⌝ }
 {
     if !zuc::is_well_formed(start) {
         return Masked {

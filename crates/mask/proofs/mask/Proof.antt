@@ -1,10 +1,12 @@
 -- `mask`: the two tests decide the outcome; past them every byte is masked, then cleared, which is the mode's mask.
 use mathlib.Core.Path.{refl, sym, ap, _∙_}
 use Prim.Native.Nat.{_*_, _/_, _+_}
+use denote.Ref.{now}
+use lib.ListN.{length}
 use borrow.Author.Needs.{needs}
 use borrow.Author.Tests.{not-true, not-false}
 use Rattle.standard.specs.Boxes.{S₀-table, S₁-table}
-use Rattle.standard.specs.Confidentiality.{eachFrom, maskedBuffer}
+use Rattle.standard.specs.Confidentiality.{eachFrom, maskedBuffer, wordsToMask}
 use Rattle.standard.proofs.Cells.{wellFormed-cells}
 use Rattle.standard.proofs.Each.{each-each}
 use Rattle.mask.specs.Clearing.{cleared}
@@ -13,11 +15,11 @@ use Rattle.mask.proofs.mask.Statement.{statement}
 use Rattle.mask.proofs.mask.Tie as tie
 
 returns : tie.Need-returns
-returns c = malformed _ _ _ _ _ (sym (c .before .is-well-formed .ensures) ∙ not-true _ (c .if1 .taken))
+returns c = malformed _ _ _ _ (sym (c .before .is-well-formed .ensures) ∙ not-true _ (c .if1 .taken))
 
 returns-2 : tie.Need-returns-2
 returns-2 c =
-    too-long _ _ _ _ _ (sym (c .before .before .before .is-well-formed .ensures) ∙ not-false _ (c .before .before .if1 .left))
+    too-long _ _ _ _ (sym (c .before .before .before .is-well-formed .ensures) ∙ not-false _ (c .before .before .if1 .left))
     (sym (c .before .bits-fit .ensures) ∙ not-true _ (c .if2 .taken))
 
 mask-all-requires : tie.Need-mask-all-requires
@@ -34,11 +36,14 @@ returns-3 c =
     let m = c .before .before .before .before .before .before in
     let t = m .before .before .before .before in
     let a = t .before .before .before .before .before .args in
-    accepted _ _ _ _ _ (sym (t .before .before .before .is-well-formed .ensures) ∙ not-false _ (t .before .before .if1 .left))
-    (sym (t .before .bits-fit .ensures) ∙ not-false _ (t .if2 .left)) (m .mask-all .ensures .0)
-    (c .before .before .keep-bits .ensures
-    ∙ ap (eachFrom (cleared (a .bits / 8 * 8 + a .kept)) 0) (m .mask-all .ensures .1)
-    ∙ each-each _ _ 0 _)
+    accepted _ _ _ _ (sym (t .before .before .before .is-well-formed .ensures) ∙ not-false _ (t .before .before .if1 .left))
+    (sym (t .before .bits-fit .ensures) ∙ not-false _ (t .if2 .left))
+    (λ i. record {
+      number = 0;
+      count = wordsToMask (length (now (a .buf)));
+      state = m .mask-all .ensures .0 i;
+      buffer = (c .before .before .keep-bits .ensures ∙ ap (eachFrom (cleared (a .bits / 8 * 8 + a .kept)) 0) (m .mask-all .ensures .1) ∙ each-each _ _ 0 _) i;
+    })
 
 pub mask-spec : {M : Type 1} → statement M
 mask-spec =
