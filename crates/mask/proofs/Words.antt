@@ -40,25 +40,6 @@ four-stored f (w ∷ x ∷ []) a b c d h p q r s = absurd (omega arith)
 four-stored f (w ∷ x ∷ y ∷ []) a b c d h p q r s = absurd (omega arith)
 four-stored f (w ∷ x ∷ y ∷ z ∷ v ∷ l) a b c d h p q r s = absurd (omega arith)
 
--- a part from i to e, at most four bytes, comes back masked with the word of its place
-pub part-masked : (words : ℕ → ℕ) (i e w : ℕ) (l ys : List ℕ) → i % 4 ≡ 0 → w ≡ words (i / 4) → i ≤ e → e ≤ length l → e - i ≤ 4
-    → ys ≡ eachFrom (masked (λ n. w)) 0 (take (e - i) (drop i l))
-    → doneFrom (masked words) e (take i l ++ (ys ++ drop (e - i) (drop i l))) ≡ doneFrom (masked words) i l
-unfolding masked
-part-masked words i e w l ys whole at a b short m =
-    ap (λ (x : ℕ). doneFrom (masked words) x (take i l ++ (ys ++ drop (e - i) (drop i l)))) end
-    ∙ from-lent (masked words) i (e - i) l ys (omega arith)
-    (m ∙ each-ext (masked (λ n. w)) (masked words) 0 i part (λ j h. place j (getD part j 0) (omega (arith, length-take (e - i) (drop i l)))))
-  where
-    part : List ℕ
-    part = take (e - i) (drop i l)
-
-    end : e ≡ i + (e - i)
-    end = omega arith
-
-    place : (j byte : ℕ) → j < 4 → masked (λ n. w) (0 + j) byte ≡ masked words (i + j) byte
-    place j byte h = ap₂ (λ (x y : ℕ). byte ⊕ byteOf x y) (at ∙ ap words (omega arith)) (omega arith)
-
 -- a draw in its parts, from the stepped state
 pub parts-word : (τ m : State) → m ≡ workStep τ → W m ⊕ X₃ (m .cells) ≡ word τ
 unfolding word Z
@@ -68,13 +49,29 @@ pub parts-next : (τ m : State) → m ≡ workStep τ → F m ≡ next τ
 unfolding next
 parts-next τ m e = ap F e
 
--- the state before draw number n, the word that it gives, and the state after it
-module _ (n : ℕ) (σ τ : State) (e : τ ≡ after n σ) where
-  pub drawn-sound : Sound σ → Sound τ
-  drawn-sound s = subst Sound (sym e) (sound-after n σ s)
+-- at byte i, a multiple of 4, in the state τ after i/4 draws
+module _ (σ τ : State) (i : ℕ) (whole : i % 4 ≡ 0) (e : τ ≡ after (i / 4) σ) where
+  pub turn-sound : Sound σ → Sound τ
+  turn-sound s = subst Sound (sym e) (sound-after (i / 4) σ s)
 
-  pub drawn-word : word τ ≡ wordAt σ n
-  drawn-word = ap word e ∙ word-after n σ
+  pub turn-state : (n : ℕ) → i / 4 + 1 ≡ n → next τ ≡ after n σ
+  turn-state n m = ap next e ∙ sym (after-more (i / 4) σ) ∙ ap (λ (k : ℕ). after k σ) (sym (add-one (i / 4)) ∙ m)
 
-  pub drawn-next : next τ ≡ after (n + 1) σ
-  drawn-next = rw add-one (ap next e ∙ sym (after-more n σ))
+  -- the word of τ masks the bytes from i to an end at most four further
+  place : (j w byte : ℕ) → j < 4 → w ≡ word τ → masked (λ n. w) (0 + j) byte ≡ masked (wordAt σ) (i + j) byte
+  unfolding masked
+  place j w byte h v = ap₂ (λ (x y : ℕ). byte ⊕ byteOf x y) (v ∙ ap word e ∙ word-after (i / 4) σ ∙ ap (wordAt σ) (omega arith)) (omega arith)
+
+  pub turn-masked : (end w : ℕ) (l ys : List ℕ) → w ≡ word τ → i ≤ end → end ≤ length l → end - i ≤ 4
+      → ys ≡ eachFrom (masked (λ n. w)) 0 (take (end - i) (drop i l))
+      → doneFrom (masked (wordAt σ)) end (take i l ++ (ys ++ drop (end - i) (drop i l))) ≡ doneFrom (masked (wordAt σ)) i l
+  turn-masked end w l ys v a b short m =
+      ap (λ (x : ℕ). doneFrom (masked (wordAt σ)) x (take i l ++ (ys ++ drop (end - i) (drop i l)))) at
+      ∙ from-lent (masked (wordAt σ)) i (end - i) l ys (omega arith)
+      (m ∙ each-ext (masked (λ n. w)) (masked (wordAt σ)) 0 i part (λ j h. place j w (getD part j 0) (omega (arith, length-take (end - i) (drop i l))) v))
+    where
+      part : List ℕ
+      part = take (end - i) (drop i l)
+
+      at : end ≡ i + (end - i)
+      at = omega arith

@@ -1,9 +1,8 @@
 -- `mask_all`: at place i, a multiple of 4, i/4 words are drawn and the mask is left to do from i on; a lent part does its places.
 use mathlib.Core.Path.{_≡_, refl, sym, ap, ap₂, _∙_}
-use Prim.Native.Nat.{ℕ, _+_, _/_, _%_, _≤_, _-_}
+use Prim.Native.Nat.{_+_, _/_, _%_, _≤_, _-_}
 use native.Mathlib.Omega.{arith}
 use lib.ListN.{length, length-take, length-drop}
-use denote.Ref.{now}
 use borrow.Author.Needs.{needs}
 use Rattle.standard.specs.Confidentiality.{masked}
 use Rattle.standard.specs.Generator.{after, wordAt}
@@ -11,7 +10,7 @@ use Rattle.standard.specs.Notation.{_⊕_}
 use Rattle.standard.proofs.Each.{doneFrom, from-start, from-end}
 use Rattle.standard.proofs.Generator.{after-none}
 use Rattle.zuc.specs.Reading.{Draw, stateOf}
-use Rattle.mask.proofs.Words.{part-masked, parts-word, parts-next, drawn-sound, drawn-word, drawn-next}
+use Rattle.mask.proofs.Words.{parts-word, parts-next, turn-sound, turn-state, turn-masked}
 use Rattle.mask.proofs.mask_all.Statement.{statement}
 use Rattle.mask.proofs.mask_all.Tie as tie
 
@@ -30,7 +29,7 @@ loop-holds : tie.Need-loop-holds Inv-loop μ-loop
 loop-holds c = (omega arith, refl, sym (after-none _), refl, refl)
 
 shift-requires : tie.Need-shift-requires Inv-loop μ-loop
-shift-requires c κs = drawn-sound _ _ _ (c .before .loop .inv .2) (c .before .before .before .pre .1 .1)
+shift-requires c κs = turn-sound _ _ _ (c .before .loop .inv .1) (c .before .loop .inv .2) (c .before .before .before .pre .1 .1)
 
 f-requires : tie.Need-f-requires Inv-loop μ-loop
 f-requires c κs =
@@ -45,15 +44,15 @@ loop-again c =
     let x = c .before .before .before .before .before .before in
     let l = x .before .before .before .before in
     let σ = stateOf (l .before .before .args .start) in
+    let τ = stateOf (l .loop .z) in
     let moved = x .before .before .shift .ensures in
-    let out = x .before .f .ensures in
-    let e : l .loop .i / 4 + 1 ≡ (l .loop .i + 4) / 4 = omega arith in (
+    let out = x .before .f .ensures in (
       omega arith,
       omega arith,
-      ap (λ (d : Draw). d .state) out ∙ parts-next _ _ moved ∙ drawn-next (l .loop .i / 4) σ _ (l .loop .inv .2) ∙ ap (λ (n : ℕ). after n σ) e,
-      part-masked (wordAt σ) (l .loop .i) (l .loop .i + 4) _ (l .loop .buf) _ (l .loop .inv .1)
-          (ap₂ _⊕_ (ap (λ (d : Draw). d .word) out) (x .x3 .ensures) ∙ parts-word _ _ moved ∙ drawn-word (l .loop .i / 4) σ _ (l .loop .inv .2))
-          (omega arith) (omega arith) (omega arith) (c .before .before .before .xor-word .ensures)
+      ap (λ (d : Draw). d .state) out ∙ parts-next τ _ moved ∙ turn-state σ τ (l .loop .i) (l .loop .inv .1) (l .loop .inv .2) _ (omega arith),
+      turn-masked σ τ (l .loop .i) (l .loop .inv .1) (l .loop .inv .2) (l .loop .i + 4) _ (l .loop .buf) _
+          (ap₂ _⊕_ (ap (λ (d : Draw). d .word) out) (x .x3 .ensures) ∙ parts-word τ _ moved) (omega arith) (omega arith) (omega arith)
+          (c .before .before .before .xor-word .ensures)
           ∙ l .loop .inv .3,
       omega arith,
     )
@@ -61,7 +60,7 @@ loop-again c =
 draw-requires : tie.Need-draw-requires Inv-loop μ-loop
 draw-requires c κs =
     let s = c .before .before .before in
-    (s .pre .0, (s .pre .1 .0, drawn-sound _ _ _ (c .before .loop .inv .2) (s .pre .1 .1)))
+    (s .pre .0, (s .pre .1 .0, turn-sound _ _ _ (c .before .loop .inv .1) (c .before .loop .inv .2) (s .pre .1 .1)))
 
 xor-rest-requires : tie.Need-xor-rest-requires Inv-loop μ-loop
 xor-rest-requires c κs = simp (length-take, length-drop) (omega arith)
@@ -71,13 +70,12 @@ returns c =
     let d = c .before .before .before .before .before in
     let l = d .before .before in
     let σ = stateOf (l .before .before .args .start) in
-    let n = length (l .loop .buf) in
-    let e : l .loop .i / 4 + 1 ≡ length (now (l .before .before .args .buf)) / 4 + 1 = omega arith in (
-      ap (λ (d : Draw). d .state) (d .draw .ensures) ∙ drawn-next (l .loop .i / 4) σ _ (l .loop .inv .2) ∙ ap (λ (n : ℕ). after n σ) e,
+    let τ = stateOf (l .loop .z) in
+    let n = length (l .loop .buf) in (
+      ap (λ (d : Draw). d .state) (d .draw .ensures) ∙ turn-state σ τ (l .loop .i) (l .loop .inv .1) (l .loop .inv .2) _ (omega arith),
       sym (from-end (masked (wordAt σ)) n _ (omega arith))
-          ∙ part-masked (wordAt σ) (l .loop .i) n _ (l .loop .buf) _ (l .loop .inv .1)
-          (ap (λ (d : Draw). d .word) (d .draw .ensures) ∙ drawn-word (l .loop .i / 4) σ _ (l .loop .inv .2)) (omega arith) (omega arith) (omega arith)
-          (c .before .before .before .xor-rest .ensures)
+          ∙ turn-masked σ τ (l .loop .i) (l .loop .inv .1) (l .loop .inv .2) n _ (l .loop .buf) _ (ap (λ (d : Draw). d .word) (d .draw .ensures))
+          (omega arith) (omega arith) (omega arith) (c .before .before .before .xor-rest .ensures)
           ∙ l .loop .inv .3
           ∙ from-start _ _,
     )
