@@ -50,10 +50,10 @@ extern "C" {
 
 /* Refusals, in the order in which they are checked. */
 #define ZUC_BAD_WIDTH 1u /* the tag width is not 4, 8 or 16 bytes */
-#define ZUC_BAD_KEY   2u /* the key is not 16 bytes, or 32 for ZUC-256 */
-#define ZUC_BAD_IV    3u /* the IV is not 16 bytes, or 23 for ZUC-256 */
+#define ZUC_BAD_KEY 2u   /* the key is not 16 bytes, or 32 for ZUC-256 */
+#define ZUC_BAD_IV 3u    /* the IV is not 16 bytes, or 23 for ZUC-256 */
 #define ZUC_BAD_STATE 4u /* the state is malformed: refused, finished or spoilt */
-#define ZUC_BAD_BITS  5u /* the bit length is more than 8 times the bytes lent */
+#define ZUC_BAD_BITS 5u  /* the bit length is more than 8 times the bytes lent */
 
 /* ---------------------------------------------------------------------------
  * Generators. A state is malformed when one of its sixteen cells is outside
