@@ -21,3 +21,11 @@ pub mod rng;
 pub mod rules;
 pub mod shrink;
 pub mod users;
+
+/// Which library is linked.
+pub fn library() -> &'static str {
+    match option_env!("YEGETMUR_LIB_DIR") {
+        None | Some("") => "libcapi.a by rt staticlib",
+        Some(_) => "libcapi.a by YEGETMUR_LIB_DIR",
+    }
+}

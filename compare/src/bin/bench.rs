@@ -9,6 +9,7 @@ use std::hint::black_box;
 use std::process::exit;
 use std::time::{Duration, Instant};
 
+use compare::library;
 use compare::plot::{plot, Curve};
 use compare::rng::Rng;
 
@@ -179,11 +180,7 @@ fn machine() -> String {
     let cpus = fs::read_to_string("/proc/cpuinfo").unwrap_or_default();
     let model = cpus.lines().find_map(|line| line.strip_prefix("model name"));
     let model = model.map_or("", |rest| rest.trim_start_matches([' ', '\t', ':']));
-    let way = match option_env!("YEGETMUR_LIB_DIR") {
-        None | Some("") => "libcapi.a by rt staticlib",
-        Some(_) => "libcapi.a by YEGETMUR_LIB_DIR",
-    };
-    format!("{} {model}; {way}", std::env::consts::ARCH)
+    format!("{} {model}; {}", std::env::consts::ARCH, library())
 }
 
 fn options() -> Options {

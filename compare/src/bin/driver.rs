@@ -20,7 +20,7 @@ struct Options {
 
 fn main() {
     let options = options();
-    println!("seed {}", options.seed);
+    println!("zuc 0.4.1 and {}; seed {}", compare::library(), options.seed);
     let mut rng = Rng::new(options.seed);
     let mut report = Report::new();
     for (name, inputs) in SECTIONS {
