@@ -6,6 +6,7 @@
 //! tried; [`shrink`] makes a failing one small.
 
 pub mod check;
+pub mod clock;
 pub mod hex;
 pub mod input;
 pub mod layout;

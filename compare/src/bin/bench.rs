@@ -1,14 +1,16 @@
 //! Times the crate and the port side by side: `bench [--rounds N] [--svg FILE]`.
 //!
-//! Both run in one process on the same buffers, turn about; of each the least time of
-//! all rounds counts, since what else the machine does can only add to it.
+//! Both run in one process on the same buffers, turn about. The time is the thread's own
+//! on the processor, and of each the least of all rounds counts: what else the machine
+//! does can only add to it.
 
 use std::env::args;
 use std::fs;
 use std::hint::black_box;
 use std::process::exit;
-use std::time::{Duration, Instant};
+use std::time::Duration;
 
+use compare::clock::thread_time;
 use compare::library;
 use compare::plot::{plot, Curve};
 use compare::rng::Rng;
@@ -168,11 +170,11 @@ fn enough(buffers: &mut Buffers, size: usize, work: Work) -> usize {
 
 /// Nanoseconds of one run, over so many.
 fn timed(runs: usize, buffers: &mut Buffers, size: usize, work: Work) -> f64 {
-    let begun = Instant::now();
+    let begun = thread_time();
     for _ in 0..runs {
         work(black_box(buffers), size);
     }
-    begun.elapsed().as_nanos() as f64 / runs as f64
+    (thread_time() - begun).as_nanos() as f64 / runs as f64
 }
 
 /// The machine, and how the library was made.
