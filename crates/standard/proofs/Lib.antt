@@ -4,4 +4,7 @@ pub mod Table
 pub mod Permutation
 pub mod Cells
 pub mod Generator
+pub mod Sum
+pub mod Extra
+pub mod Linear
 pub mod Examples
