@@ -1,0 +1,4 @@
+pub mod Message
+pub mod Updates
+pub mod Followed
+pub mod Rule

@@ -1,0 +1,1 @@
+// The registers of a tag, for tags of 32, 64 and 128 bits.
