@@ -2,3 +2,4 @@ pub mod Message
 pub mod Updates
 pub mod Followed
 pub mod Rule
+pub mod Lookup

@@ -1,1 +1,2 @@
 pub mod Tagging
+pub mod Lookup
