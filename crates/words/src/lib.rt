@@ -1,0 +1,41 @@
+// Helpers on words that the language lacks: rotation, bytes of a word, and a bit length held against a byte count.
+ghost use lib.Dec.{leb};
+ghost use mathlib.Core.Path.{_≡_};
+ghost use Prim.Native.Nat.{_*_, _<_};
+ghost use Rattle.standard.specs.Confidentiality.{byteOf};
+ghost use Rattle.standard.specs.Notation.{_‖₈_, _⋘_};
+
+// x rotated left by n, which is 1 to 31.
+pub fn rol(x: u32, n: u32) -> u32
+    requires { ⌜ (0 < n) × (n < 32) ⌝ }
+    ensures { λ r. ⌜ r ≡ x ⋘ n ⌝ }
+{
+    (x << n) | (x >> (32 - n))
+}
+
+// Four bytes as one word, highest first.
+pub fn word_of(a: u8, b: u8, c: u8, d: u8) -> u32
+    ensures { λ r. ⌜ r ≡ a ‖₈ b ‖₈ c ‖₈ d ⌝ }
+{
+    ((a as u32) << 24) + ((b as u32) << 16) + ((c as u32) << 8) + (d as u32)
+}
+
+// Byte j of a word, the highest first.
+pub fn byte_of(w: u32, j: usize) -> u8
+    requires { ⌜ j < 4 ⌝ }
+    ensures { λ r. ⌜ r ≡ byteOf w j ⌝ }
+{
+    ((w >> (8 * (3 - j))) % 256) as u8
+}
+
+// Whether a bit length is at most 8 times a number of bytes. Nothing is multiplied, so nothing overflows.
+pub fn bits_fit(bits: usize, bytes: usize) -> bool
+    ensures { λ r. ⌜ r ≡ leb bits (bytes * 8) ⌝ }
+{
+    // The bytes that the bits reach into.
+    let reached = bits / 8 + (bits % 8 + 7) / 8;
+    if reached <= bytes {
+        return true;
+    }
+    false
+}
