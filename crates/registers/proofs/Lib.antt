@@ -3,3 +3,4 @@ pub mod Updates
 pub mod Followed
 pub mod Rule
 pub mod Lookup
+pub mod Double

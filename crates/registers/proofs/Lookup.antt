@@ -14,7 +14,7 @@ use Rattle.standard.specs.Integrity.{T, whereSet}
 use Rattle.standard.proofs.Sum.{sum-split}
 use Rattle.standard.proofs.Window.{window-bitOf}
 use Rattle.standard.proofs.Xor.{xor-assoc}
-use Rattle.registers.specs.Lookup.{lookedUp, multiple, multiplesOf}
+use Rattle.registers.specs.Lookup.{lookedUp, multiple, multiplesOf, summed}
 
 pub getD-listed : (f : ℕ → ℕ) (i n k : ℕ) → k < n → getD (listed f i n) k 0 ≡ f (i + k)
 unfolding listed
@@ -73,14 +73,19 @@ looked-groups : (pair bits k : ℕ) → k ≤ 8 → lookedUp (multiplesOf pair) 
 unfolding lookedUp T multiplesOf
 looked-groups pair bits zero h = refl
 looked-groups pair bits (suc k) h =
-    ap₂ bitXor (looked-groups pair bits k (omega arith)) (ap (λ (x : ℕ). x / 2 ^ (29 - 4 * k) % 2 ^ 32) entry ∙ group pair bits k (omega arith))
+    ap₂ bitXor (looked-groups pair bits k (omega arith)) (ap (λ (x : ℕ). x / 2 ^ (29 - 4 * k) % 2 ^ 32) entry ∙ group pair bits k (omega arith)
+    ∙ ap (λ (x : ℕ). T 32 (bitOf 64 pair) x (λ i. bitOf 32 bits (4 * k + i)) 4) (sym (zero-add (4 * k))))
     ∙ sym (sum-split 32 (bitOf 64 pair) 0 (bitOf 32 bits) (4 * k) 4)
-    ∙ ap (T 32 (bitOf 64 pair) 0 (bitOf 32 bits)) (omega arith)
+    ∙ ap (T 32 (bitOf 64 pair) 0 (bitOf 32 bits)) next
   where
+    next : 4 * k + 4 ≡ 4 * suc k
+    next = omega arith
+
     entry : getD (multiplesOf pair) (bits / 2 ^ (28 - 4 * k) % 16) 0 ≡ multiple pair (bits / 2 ^ (28 - 4 * k) % 16)
     entry = getD-listed (multiple pair) 0 16 (bits / 2 ^ (28 - 4 * k) % 16) (omega arith) ∙ ap (multiple pair) (zero-add (bits / 2 ^ (28 - 4 * k) % 16))
 
-pub looked-is : (pair bits : ℕ) → lookedUp (multiplesOf pair) bits 8 ≡ T 32 (bitOf 64 pair) 0 (bitOf 32 bits) 32
+pub looked-is : (pair bits : ℕ) → lookedUp (multiplesOf pair) bits 8 ≡ summed 32 pair bits
+unfolding summed
 looked-is pair bits = looked-groups pair bits 8 (omega arith)
 
 -- the table, spelled as the code makes it
