@@ -82,7 +82,6 @@ module _ (t : ℕ) (pos : 0 < t) (a b c d : ℕ) (ha : a < 2 ^ t) (hb : b < 2 ^ 
       (λ j m. bit-window (bitAt t cells) (bitAt-lt t cells) 0 (t + t + (t + t)) (k * t + j) (omega (arith, m, mul-le-mul-right t l)) ∙ ap (bitAt t cells) (zero-add (k * t + j)))
       ∙ pair-at k h h′
 
-
   abbrev S : ℕ → ℕ
   S = bitOf (t + t + (t + t)) four
 
@@ -143,3 +142,10 @@ pub wider-is : (a b c d hi lo : ℕ) → a < 2 ^ 64 → b < 2 ^ 64 → c < 2 ^ 6
     → (summed 64 (a * 2 ^ 64 + b) hi ⊕ summed 64 (b * 2 ^ 64 + c) lo) * 2 ^ 64 + (summed 64 (b * 2 ^ 64 + c) hi ⊕ summed 64 (c * 2 ^ 64 + d) lo)
     ≡ summed 128 ((a * 2 ^ 64 + b) * 2 ^ 128 + (c * 2 ^ 64 + d)) (hi * 2 ^ 64 + lo)
 wider-is a b c d hi lo ha hb hc hd h = sym (sum-double 64 (omega arith) a b c d ha hb hc hd hi lo h)
+
+-- three tables made from two words of the key
+pub wide-from : (x y bits p : ℕ) (first middle last : List ℕ) → x < 2 ^ 64 → y < 2 ^ 64 → bits < 2 ^ 64
+    → first ≡ multiplesOf x → p ≡ between x y → middle ≡ multiplesOf p → last ≡ multiplesOf y
+    → wideLookedUp first middle last bits ≡ summed 64 (x * 2 ^ 64 + y) bits
+wide-from x y bits p first middle last hx hy hb e1 ep e2 e3 =
+    rw (e1, e2, e3, ep) (wide-is x y bits hx hy hb)

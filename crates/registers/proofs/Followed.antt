@@ -85,9 +85,9 @@ module _ (t : ℕ) (whole : t % 32 ≡ 0) (o : ℕ) (σ : State) (first : ℕ) w
         generator-is = f .generator-is;
         key-is = f .key-is;
         tag-is =
-          f .tag-is
-          ∙ ap (bitXor first)
-          (sum-ext t Z Z o o (M m) (M (m ++ (b ∷ []))) (c * 8) (λ j l. refl) (λ j l. sym (M-front m (b ∷ []) j (omega (arith, f .within)))));
+            f .tag-is
+            ∙ ap (bitXor first)
+            (sum-ext t Z Z o o (M m) (M (m ++ (b ∷ []))) (c * 8) (λ j l. refl) (λ j l. sym (M-front m (b ∷ []) j (omega (arith, f .within)))));
         waiting-is = ap (λ (x : List ℕ). x ++ (b ∷ [])) (f .waiting-is) ∙ sym (drop-append-le c m (b ∷ []) (f .within));
         taken-is = f .taken-is;
         drawn-is = f .drawn-is;
@@ -103,14 +103,14 @@ module _ (t : ℕ) (whole : t % 32 ≡ 0) (o : ℕ) (σ : State) (first : ℕ) w
       (record {
         generator-is = ap (after (t / 32)) (f .generator-is) ∙ after-after w (t / 32) σ;
         key-is =
-          ap₂ (λ (x : ℕ) (y : State). x * 2 ^ t % 2 ^ (t + t) + window (z (wordAt y)) 0 t) (f .key-is) (f .generator-is)
-          ∙ ap (λ (x : ℕ). window Z (o + c * 8) (t + t) * 2 ^ t % 2 ^ (t + t) + x) (window-after t w σ ∙ ap (λ (x : ℕ). window Z x t) (f .drawn-is))
-          ∙ key-on Z (z-lt (wordAt σ)) t (o + c * 8)
-          ∙ ap (λ (x : ℕ). window Z x (t + t)) next;
+            ap₂ (λ (x : ℕ) (y : State). x * 2 ^ t % 2 ^ (t + t) + window (z (wordAt y)) 0 t) (f .key-is) (f .generator-is)
+            ∙ ap (λ (x : ℕ). window Z (o + c * 8) (t + t) * 2 ^ t % 2 ^ (t + t) + x) (window-after t w σ ∙ ap (λ (x : ℕ). window Z x t) (f .drawn-is))
+            ∙ key-on Z (z-lt (wordAt σ)) t (o + c * 8)
+            ∙ ap (λ (x : ℕ). window Z x (t + t)) next;
         tag-is =
-          block-sum m st k c w f (M (st .waiting ++ (b ∷ []))) (m ++ (b ∷ [])) t (omega arith)
-          (λ j l. sym (M-front m (b ∷ []) j (omega (arith, f .within)))) (λ j l. waiting-bits m st k c w f (b ∷ []) j)
-          ∙ ap (λ (x : ℕ). first ⊕ T t Z o (M (m ++ (b ∷ []))) x) bits;
+            block-sum m st k c w f (M (st .waiting ++ (b ∷ []))) (m ++ (b ∷ [])) t (omega arith)
+            (λ j l. sym (M-front m (b ∷ []) j (omega (arith, f .within)))) (λ j l. waiting-bits m st k c w f (b ∷ []) j)
+            ∙ ap (λ (x : ℕ). first ⊕ T t Z o (M (m ++ (b ∷ []))) x) bits;
         waiting-is = sym (drop-of-length-le (m ++ (b ∷ [])) {i = c + t / 8} full);
         taken-is = omega (arith, f .taken-is, suc-mul k t);
         drawn-is = omega (arith, f .drawn-is);

@@ -4,3 +4,4 @@ pub mod Followed
 pub mod Rule
 pub mod Lookup
 pub mod Double
+pub mod Widths

@@ -91,7 +91,7 @@ looked-is pair bits = looked-groups pair bits 8 (omega arith)
 -- the table, spelled as the code makes it
 pub spelled : (pair b c d : ℕ) → b ≡ pair / 2 → c ≡ pair / 2 ^ 2 → d ≡ pair / 2 ^ 3
     → 0 ∷ pair ∷ b ∷ (b ⊕ pair) ∷ c ∷ (c ⊕ pair) ∷ (c ⊕ b) ∷ (c ⊕ (b ⊕ pair)) ∷ d ∷ (d ⊕ pair) ∷ (d ⊕ b) ∷ (d ⊕ (b ⊕ pair)) ∷
-      (d ⊕ c) ∷ (d ⊕ c ⊕ pair) ∷ (d ⊕ c ⊕ b) ∷ (d ⊕ c ⊕ (b ⊕ pair)) ∷ []
+    (d ⊕ c) ∷ (d ⊕ c ⊕ pair) ∷ (d ⊕ c ⊕ b) ∷ (d ⊕ c ⊕ (b ⊕ pair)) ∷ []
     ≡ multiplesOf pair
 unfolding multiplesOf multiple listed
 spelled pair b c d eb ec ed = rw (eb, ec, ed) (simp (xor-zero-l, xor-zero-r, xor-assoc))

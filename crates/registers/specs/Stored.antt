@@ -1,14 +1,17 @@
 -- How the struct of the code holds a tag in the making, at a width of 4, 8 or 16 bytes.
 use mathlib.Core.Bool.{Bool, true, false, _&&_}
 use mathlib.Core.List.{List, [], _∷_, _++_}
+use mathlib.Core.Logic.{_⊎_}
+use mathlib.Core.Path.{_≡_}
 use Prim.Native.Nat.{ℕ, _+_, _-_, _*_, _/_, _%_, _^_}
 use lib.Dec.{eqb, ltb}
 use lib.ListN.{drop, length, replicate, take}
 use Rattle.standard.specs.Notation.{if_then_else_}
 use Rattle.standard.specs.Bits.{window, z}
 use Rattle.standard.specs.Generator.{State, _⟨_⟩, after, wellFormed, wordAt, zeros}
-use Rattle.zuc.specs.Reading.{Draw, stateOf}
+use Rattle.zuc.specs.Reading.{stateOf}
 use Rattle.registers.specs.Tagging.{Tagging}
+use Rattle.registers.specs.declared.Fresh.{Fresh}
 use Rattle.registers.specs.declared.TagState.{TagState}
 
 infixl 50 _‖₆₄_
@@ -31,6 +34,10 @@ a ‖₆₄ b = a * 2 ^ 64 + b
 
 abbrev pub _‖₁₂₈_ : ℕ → ℕ → ℕ
 a ‖₁₂₈ b = a * 2 ^ 128 + b
+
+-- the widths of a tag, in bytes
+abbrev pub Width : ℕ → Type 0
+Width width = (width ≡ 4) ⊎ ((width ≡ 8) ⊎ (width ≡ 16))
 
 -- the key pair of 2t bits in its words: one at 4 bytes, two at 8, four at 16
 unfoldable pub keyOf : ℕ → List ℕ → ℕ
@@ -106,6 +113,14 @@ zeroStored =
       width = 0;
     }
 
+-- what the code draws at once: the words of t bits, and the generator after them
+pub record Words : Type 0 where
+  pub words : List ℕ
+  pub state : State
+
+abbrev pub wordsOf : Fresh → Words
+wordsOf r = record { words = r .words; state = stateOf (r .next) }
+
 -- the next t bits of a generator, and its state after them
-unfoldable pub fresh : ℕ → State → Draw
-fresh t σ = record { word = window (z (wordAt σ)) 0 t; state = after (t / 32) σ }
+unfoldable pub fresh : ℕ → State → Words
+fresh width σ = record { words = tagWords width (window (z (wordAt σ)) 0 (width * 8)); state = after (width / 4) σ }

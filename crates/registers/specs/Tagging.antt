@@ -43,8 +43,8 @@ fed t st block =
 unfoldable pub absorbed : ℕ → Tagging → ℕ → Tagging
 absorbed t st byte =
     if ltb (suc (length (st .waiting)) * 8) t
-      then record { generator = st .generator; key = st .key; tag = st .tag; waiting = st .waiting ++ (byte ∷ []) }
-      else fed t st (st .waiting ++ (byte ∷ []))
+    then record { generator = st .generator; key = st .key; tag = st .tag; waiting = st .waiting ++ (byte ∷ []) }
+    else fed t st (st .waiting ++ (byte ∷ []))
 
 -- the bytes of an update, one after the other
 unfoldable pub updated : ℕ → Tagging → List ℕ → Tagging
