@@ -5,3 +5,4 @@ pub mod Rule
 pub mod Lookup
 pub mod Double
 pub mod Widths
+pub mod Packed
