@@ -21,7 +21,7 @@ use Rattle.standard.proofs.Window.{bit-window, window-ext, window-lt, window-sp
 use Rattle.standard.proofs.Sum.{sum-ext, sum-split}
 use Rattle.registers.specs.Tagging.{Tagging, absorbed, fed, updated}
 use Rattle.registers.proofs.Message.{M-drop, M-front, window-after, z-lt}
-use Rattle.registers.proofs.Updates.{absorbed-fills, absorbed-waits}
+use Rattle.registers.proofs.Cutting.{absorbed-fills, absorbed-waits}
 
 -- o is where the windows start, first the tag at the start, blocks the number of whole blocks, taken the bytes in them, drawn the words
 pub record Followed (t o : ℕ) (σ : State) (first : ℕ) (m : List ℕ) (st : Tagging) (blocks taken drawn : ℕ) : Type 0 where

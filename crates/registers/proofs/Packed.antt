@@ -7,10 +7,11 @@ use mathlib.Core.Logic.{_⊎_, inl, inr, ⊎-elim}
 use Prim.Native.Nat.{ℕ, zero, suc, _+_, _-_, _*_, _/_, _%_, _^_, _<_, _≤_}
 use native.Mathlib.Omega.{arith}
 use native.Mathlib.Nat.{div-eq-of-lt, eq-zero-or-pos}
+use native.Mathlib.Numerals.{add-one}
 use lib.Arith.{digits-lt}
 use lib.Dec.{eqb, ltb}
 use lib.ListN.{drop, length, length-append, length-drop, replicate, take, take-append-drop}
-use lib.Seq.{drop-at, length-take-le, take-at}
+use lib.Seq.{drop-at, drop-cons, length-take-le, take-at}
 use lib.Bits.{xor-lt}
 use lib.Pow.{high, low, split}
 use borrow.Author.Tests.{eq-eqb, eqb-true, lt-ltb, ltb-true, ne-eqb}
@@ -23,9 +24,9 @@ use Rattle.standard.proofs.Generator.{Sound, sound-after}
 use Rattle.standard.proofs.Sum.{sum-lt}
 use Rattle.standard.proofs.Window.{bitOf-lt, window-lt}
 use Rattle.registers.specs.Tagging.{Tagging, absorbed, begun-EIA3, begun-ZUC256, fed, updated}
-use Rattle.registers.specs.Stored.{Stored, Width, allZero, formed, isWidth, keyOf, keyWords, packed, tagOf, tagWords, taggingOf, unused}
+use Rattle.registers.specs.Stored.{Good, Held, Stored, Width, allZero, formed, isWidth, keyOf, keyWords, packed, tagOf, tagWords, taggingOf, unused}
 use Rattle.registers.proofs.Message.{z-lt}
-use Rattle.registers.proofs.Updates.{absorbed-fills, absorbed-waits}
+use Rattle.registers.proofs.Cutting.{absorbed-fills, absorbed-waits}
 use Rattle.registers.proofs.Widths.{tag-words-16, words-16, words-8}
 
 and-l : (a b : Bool) → a && b ≡ true → a ≡ true
@@ -48,13 +49,6 @@ pub record Typed (s : Stored) : Type 0 where
   pub key-small : (i : ℕ) → s .key ⟨ i ⟩ < 2 ^ 64
   pub tag-small : (i : ℕ) → s .tag ⟨ i ⟩ < 2 ^ 64
 
--- a state that a struct of a width can hold
-pub record Good (w : ℕ) (st : Tagging) : Type 0 where
-  pub width : Width w
-  pub sound : Sound (st .generator)
-  pub tag-lt : st .tag < 2 ^ (w * 8)
-  pub short : length (st .waiting) < w
-
 pub width-most : {w : ℕ} → Width w → w ≤ 16
 width-most h = ⊎-elim (λ e. omega arith) (λ o. ⊎-elim (λ e. omega arith) (λ e. omega arith) o) h
 
@@ -76,7 +70,20 @@ pub is-width : {w : ℕ} → Width w → isWidth w ≡ true
 unfolding isWidth
 is-width h = ⊎-elim (λ e. rw e refl) (λ o. ⊎-elim (λ e. rw e refl) (λ e. rw e refl) o) h
 
+pub no-width : (w : ℕ) → (Width w → ⊥) → isWidth w ≡ false
+unfolding isWidth
+no-width w h = rw (ne-eqb w 4 (λ e. h (inl e)), ne-eqb w 8 (λ e. h (inr (inl e))), ne-eqb w 16 (λ e. h (inr (inr e)))) refl
+
 -- zeros
+module _ (l : List ℕ) (i : ℕ) (h : i < length l) where
+  pub zero-not : (l ⟨ i ⟩ ≡ 0 → ⊥) → allZero (drop i l) ≡ false
+  unfolding allZero
+  zero-not e = rw (drop-cons l i 0 h) (rw (ne-eqb (l ⟨ i ⟩) 0 e) refl)
+
+  pub zero-next : l ⟨ i ⟩ ≡ 0 → allZero (drop i l) ≡ allZero (drop (i + 1) l)
+  unfolding allZero
+  zero-next e = rw (drop-cons l i 0 h) (rw (eq-eqb (l ⟨ i ⟩) 0 e, add-one) refl)
+
 zeros-first : (x : ℕ) (l : List ℕ) → allZero (x ∷ l) ≡ true → x ≡ 0
 unfolding allZero
 zeros-first x l e = eqb-true x 0 (and-l (eqb x 0) (allZero l) e)
@@ -153,6 +160,20 @@ unused-8 k t e =
     r : allZero (k ⟨ 3 ⟩ ∷ t ⟨ 1 ⟩ ∷ []) ≡ true
     r = zeros-rest (k ⟨ 2 ⟩) (k ⟨ 3 ⟩ ∷ t ⟨ 1 ⟩ ∷ []) e
 
+-- the same, as the code spells them
+module _ (w : ℕ) (k t : List ℕ) where
+  pub unused-at-4 : w ≡ 4 → allZero (k ⟨ 1 ⟩ ∷ k ⟨ 2 ⟩ ∷ k ⟨ 3 ⟩ ∷ t ⟨ 0 ⟩ / 2 ^ 32 ∷ t ⟨ 1 ⟩ ∷ []) ≡ allZero (unused w k t)
+  unfolding unused
+  unused-at-4 e = rw e refl
+
+  pub unused-at-8 : w ≡ 8 → allZero (k ⟨ 2 ⟩ ∷ k ⟨ 3 ⟩ ∷ t ⟨ 1 ⟩ ∷ []) ≡ allZero (unused w k t)
+  unfolding unused
+  unused-at-8 e = rw e refl
+
+  pub unused-none : (w ≡ 4 → ⊥) → (w ≡ 8 → ⊥) → true ≡ allZero (unused w k t)
+  unfolding unused allZero
+  unused-none not4 not8 = rw (ne-eqb w 4 not4, ne-eqb w 8 not8) refl
+
 -- the words of a width, its unused parts zero, are those of the numbers in them
 module _ (w : ℕ) (k t : List ℕ) (keys : length k ≡ 4) (tags : length t ≡ 2) (k-small : (i : ℕ) → k ⟨ i ⟩ < 2 ^ 64)
     (t-small : (i : ℕ) → t ⟨ i ⟩ < 2 ^ 64) where
@@ -180,9 +201,11 @@ module _ (w : ℕ) (k t : List ℕ) (keys : length k ≡ 4) (tags : length t ≡
   words-of-16 : w ≡ 16 → Words
   unfolding keyOf tagOf
   words-of-16 e =
-      rw e
-      (words-16 (k ⟨ 0 ⟩) (k ⟨ 1 ⟩) (k ⟨ 2 ⟩) (k ⟨ 3 ⟩) (k-small 1) (k-small 2) (k-small 3) ∙ sym (four-words k keys),
-      tag-words-16 (t ⟨ 0 ⟩) (t ⟨ 1 ⟩) (t-small 1) ∙ sym (two-words t tags), digits-lt (t-small 0) (t-small 1))
+      rw e (
+        words-16 (k ⟨ 0 ⟩) (k ⟨ 1 ⟩) (k ⟨ 2 ⟩) (k ⟨ 3 ⟩) (k-small 1) (k-small 2) (k-small 3) ∙ sym (four-words k keys),
+        tag-words-16 (t ⟨ 0 ⟩) (t ⟨ 1 ⟩) (t-small 1) ∙ sym (two-words t tags),
+        digits-lt (t-small 0) (t-small 1),
+      )
 
   words-of : Width w → allZero (unused w k t) ≡ true → Words
   words-of h u = ⊎-elim (λ e. words-4 e u) (λ o. ⊎-elim (λ e. words-of-8 e u) words-of-16 o) h
@@ -202,11 +225,11 @@ module _ (s : Stored) (typed : Typed s) (ok : formed s ≡ true) where
       record {
         sound = wellFormed-cells (s .generator .cells) (typed .cells) (and-l a b (and-l (a && b) c (and-l (a && b && c) d (and-l (a && b && c && d) e ok))));
         width = width-is (s .width) (and-r a b (and-l (a && b) c (and-l (a && b && c) d (and-l (a && b && c && d) e ok))));
-        short = ltb-true (s .cnt) (s .width) (and-r (a && b) c (and-l (a && b && c) d (and-l (a && b && c && d) e ok)));
+        unused-zero = and-r (a && b) c (and-l (a && b && c) d (and-l (a && b && c && d) e ok));
+        short = ltb-true (s .cnt) (s .width) (and-r (a && b && c) d (and-l (a && b && c && d) e ok));
         rest =
-          zeros-are (drop (s .cnt) (s .rem)) (and-r (a && b && c) d (and-l (a && b && c && d) e ok))
-          ∙ ap (λ (n : ℕ). replicate n 0) (length-drop (s .cnt) (s .rem) ∙ ap (λ (n : ℕ). n - s .cnt) (typed .rems));
-        unused-zero = and-r (a && b && c && d) e ok;
+            zeros-are (drop (s .cnt) (s .rem)) (and-r (a && b && c && d) e ok)
+            ∙ ap (λ (n : ℕ). replicate n 0) (length-drop (s .cnt) (s .rem) ∙ ap (λ (n : ℕ). n - s .cnt) (typed .rems));
       }
     where
       a : Bool
@@ -216,13 +239,13 @@ module _ (s : Stored) (typed : Typed s) (ok : formed s ≡ true) where
       b = isWidth (s .width)
 
       c : Bool
-      c = ltb (s .cnt) (s .width)
+      c = allZero (unused (s .width) (s .key) (s .tag))
 
       d : Bool
-      d = allZero (drop (s .cnt) (s .rem))
+      d = ltb (s .cnt) (s .width)
 
       e : Bool
-      e = allZero (unused (s .width) (s .key) (s .tag))
+      e = allZero (drop (s .cnt) (s .rem))
 
   waiting-length : length (take (s .cnt) (s .rem)) ≡ s .cnt
   waiting-length = length-take-le (s .cnt) (s .rem) (omega (arith, facts .short, width-most (facts .width), typed .rems))
@@ -231,40 +254,43 @@ module _ (s : Stored) (typed : Typed s) (ok : formed s ≡ true) where
   held = words-of (s .width) (s .key) (s .tag) (typed .keys) (typed .tags) (typed .key-small) (typed .tag-small) (facts .width) (facts .unused-zero)
 
   -- a well-formed struct is the packing of what it holds, which is good
-  pub packs : packed (s .width) (taggingOf s) ≡ s
+  packs-back : packed (s .width) (taggingOf s) ≡ s
   unfolding packed taggingOf
-  packs =
+  packs-back =
       λ i. record {
         generator = s .generator;
         key = held .0 i;
         tag = held .1 i;
         rem =
-          (ap (λ (n : ℕ). take (s .cnt) (s .rem) ++ replicate (16 - n) 0) waiting-length
-          ∙ ap (λ (l : List ℕ). take (s .cnt) (s .rem) ++ l) (sym (facts .rest))
-          ∙ take-append-drop (s .cnt) (s .rem)) i;
+            (ap (λ (n : ℕ). take (s .cnt) (s .rem) ++ replicate (16 - n) 0) waiting-length
+            ∙ ap (λ (l : List ℕ). take (s .cnt) (s .rem) ++ l) (sym (facts .rest))
+            ∙ take-append-drop (s .cnt) (s .rem)) i;
         cnt = waiting-length i;
         width = s .width;
       }
 
-  pub good : Good (s .width) (taggingOf s)
+  is-good : Good (s .width) (taggingOf s)
   unfolding taggingOf
-  good =
+  is-good =
       record {
-        width = facts .width;
+        a-width = facts .width;
         sound = facts .sound;
         tag-lt = held .2;
         short = omega (arith, waiting-length, facts .short);
       }
 
+  pub formed-held : Held s
+  formed-held = record { good = is-good; packs = packs-back }
+
 -- a packing reads back
-key-back : {w : ℕ} → Width w → (k : ℕ) → keyOf w (keyWords w k) ≡ k
+pub key-back : {w : ℕ} → Width w → (k : ℕ) → keyOf w (keyWords w k) ≡ k
 unfolding keyOf keyWords
 key-back h k =
     ⊎-elim (λ e. rw e refl)
     (λ o. ⊎-elim (λ e. rw e (split k 64))
     (λ e. rw e (ap₂ (λ (x y : ℕ). x * 2 ^ 128 + y) (split (k / 2 ^ 128) 64) (split (k % 2 ^ 128) 64) ∙ split k 128)) o) h
 
-tag-back : {w : ℕ} → Width w → (t : ℕ) → tagOf w (tagWords w t) ≡ t
+pub tag-back : {w : ℕ} → Width w → (t : ℕ) → tagOf w (tagWords w t) ≡ t
 unfolding tagOf tagWords
 tag-back h t = ⊎-elim (λ e. rw e refl) (λ o. ⊎-elim (λ e. rw e refl) (λ e. rw e (split t 64)) o) h
 
@@ -274,15 +300,15 @@ module _ {w : ℕ} {st : Tagging} (g : Good w st) where
   reads =
       λ i. record {
         generator = st .generator;
-        key = key-back (g .width) (st .key) i;
-        tag = tag-back (g .width) (st .tag) i;
+        key = key-back (g .a-width) (st .key) i;
+        tag = tag-back (g .a-width) (st .tag) i;
         waiting = take-at (st .waiting) (replicate (16 - length (st .waiting)) 0) (length (st .waiting)) refl i;
       }
 
   unused-packed : allZero (unused w (keyWords w (st .key)) (tagWords w (st .tag))) ≡ true
   unfolding unused keyWords tagWords allZero
   unused-packed =
-      ⊎-elim (λ e. rw e (rw (eq-eqb (st .tag / 2 ^ 32) 0 (small e)) refl)) (λ o. ⊎-elim (λ e. rw e refl) (λ e. rw e refl) o) (g .width)
+      ⊎-elim (λ e. rw e (rw (eq-eqb (st .tag / 2 ^ 32) 0 (small e)) refl)) (λ o. ⊎-elim (λ e. rw e refl) (λ e. rw e refl) o) (g .a-width)
     where
       small : w ≡ 4 → st .tag / 2 ^ 32 ≡ 0
       small e = div-eq-of-lt (subst (λ (n : ℕ). st .tag < 2 ^ (n * 8)) e (g .tag-lt))
@@ -292,20 +318,31 @@ module _ {w : ℕ} {st : Tagging} (g : Good w st) where
   unfolding formed packed
   well-formed =
       and-both
-      (and-both (and-both (and-both (cells-wellFormed (g .sound)) (is-width (g .width))) (lt-ltb (length (st .waiting)) w (g .short)))
-      (ap allZero (drop-at (st .waiting) (replicate (16 - length (st .waiting)) 0) (length (st .waiting)) refl) ∙ are-zeros (16 - length (st .waiting))))
-      unused-packed
+      (and-both (and-both (and-both (cells-wellFormed (g .sound)) (is-width (g .a-width))) unused-packed) (lt-ltb (length (st .waiting)) w (g .short)))
+      (ap allZero (drop-at (st .waiting) (replicate (16 - length (st .waiting)) 0) (length (st .waiting)) refl) ∙ are-zeros (16 - length (st .waiting)))
+
+  pub holds : Held (packed w st)
+  unfolding packed
+  holds = record { good = subst (Good w) (sym reads) g; packs = ap (packed w) reads }
+
+-- what is said of a struct's own reading, said of the state that it packs
+pub at-packed : {A : Type 0} (F : ℕ → Tagging → A) {w : ℕ} {st : Tagging} {s : Stored} → s ≡ packed w st → Good w st → F (s .width) (taggingOf s) ≡ F w st
+unfolding packed
+at-packed F {w} {st} e g = ap (λ (x : Stored). F (x .width) (taggingOf x)) e ∙ ap (F w) (reads g)
+
+pub held-as : {w : ℕ} {st : Tagging} {s : Stored} → s ≡ packed w st → Good w st → Held s
+held-as e g = subst Held (sym e) (holds g)
 
 -- starts, bytes and updates keep states good
 pub good-EIA3 : (σ : State) → Sound σ → Good 4 (begun-EIA3 σ)
 unfolding begun-EIA3
-good-EIA3 σ h = record { width = inl refl; sound = sound-after 2 σ h; tag-lt = omega arith; short = omega arith }
+good-EIA3 σ h = record { a-width = inl refl; sound = sound-after 2 σ h; tag-lt = omega arith; short = omega arith }
 
 pub good-ZUC256 : {w : ℕ} → Width w → (σ : State) → Sound σ → Good w (begun-ZUC256 (w * 8) σ)
 unfolding begun-ZUC256
 good-ZUC256 {w} v σ h =
     record {
-      width = v;
+      a-width = v;
       sound = sound-after (3 * (w * 8 / 32)) σ h;
       tag-lt = window-lt (z (wordAt σ)) (z-lt (wordAt σ)) 0 (w * 8);
       short = omega (arith, width-whole v .1);
@@ -315,12 +352,12 @@ pub good-fed : {w : ℕ} {st : Tagging} → Good w st → (block : List ℕ) →
 unfolding fed
 good-fed {w} {st} g block =
     record {
-      width = g .width;
+      a-width = g .a-width;
       sound = sound-after (w * 8 / 32) (st .generator) (g .sound);
       tag-lt =
-        xor-lt (w * 8) (st .tag) (T (w * 8) (bitOf (w * 8 + w * 8) (st .key)) 0 (M block) (w * 8)) (g .tag-lt)
-        (sum-lt (w * 8) (bitOf (w * 8 + w * 8) (st .key)) (bitOf-lt (w * 8 + w * 8) (st .key)) 0 (M block) (w * 8));
-      short = omega (arith, width-whole (g .width) .1);
+          xor-lt (w * 8) (st .tag) (T (w * 8) (bitOf (w * 8 + w * 8) (st .key)) 0 (M block) (w * 8)) (g .tag-lt)
+          (sum-lt (w * 8) (bitOf (w * 8 + w * 8) (st .key)) (bitOf-lt (w * 8 + w * 8) (st .key)) 0 (M block) (w * 8));
+      short = omega (arith, width-whole (g .a-width) .1);
     }
 
 pub good-absorbed : {w : ℕ} {st : Tagging} → Good w st → (b : ℕ) → Good w (absorbed (w * 8) st b)
@@ -328,7 +365,7 @@ good-absorbed {w} {st} g b =
     ⊎-elim
     (λ e. rw (absorbed-fills (w * 8) st b (omega arith)) (good-fed g (st .waiting ++ (b ∷ []))))
     (λ p. rw (absorbed-waits (w * 8) st b (omega arith))
-    (record { width = g .width; sound = g .sound; tag-lt = g .tag-lt; short = omega (arith, length-append (st .waiting) (b ∷ [])) }))
+    (record { a-width = g .a-width; sound = g .sound; tag-lt = g .tag-lt; short = omega (arith, length-append (st .waiting) (b ∷ [])) }))
     (eq-zero-or-pos (w * 8 - suc (length (st .waiting)) * 8))
 
 pub good-updated : {w : ℕ} (m : List ℕ) {st : Tagging} → Good w st → Good w (updated (w * 8) st m)

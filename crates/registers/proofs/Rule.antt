@@ -21,7 +21,7 @@ use Rattle.standard.proofs.Generator.{after-more, word-after, wordAt-lt}
 use Rattle.standard.proofs.Window.{window-lt, window-split}
 use Rattle.registers.specs.Tagging.{Tagging, begun-EIA3, begun-ZUC256, closed-EIA3, closed-ZUC256, ended, extraState, extraWord, lastTag, leftOver, updated}
 use Rattle.registers.proofs.Message.{z-lt}
-use Rattle.registers.proofs.Updates.{updated-append}
+use Rattle.registers.proofs.Cutting.{updated-append}
 use Rattle.registers.proofs.Followed.{Followed, Follows, blocks-are, followed-all, followed-tag}
 
 -- what both rules share: o and first as the start has them

@@ -3,14 +3,14 @@ use mathlib.Core.Bool.{Bool, true, false, _&&_}
 use mathlib.Core.List.{List, [], _∷_, _++_}
 use mathlib.Core.Logic.{_⊎_}
 use mathlib.Core.Path.{_≡_}
-use Prim.Native.Nat.{ℕ, _+_, _-_, _*_, _/_, _%_, _^_}
+use Prim.Native.Nat.{ℕ, _+_, _-_, _*_, _/_, _%_, _^_, _<_, _≤_}
 use lib.Dec.{eqb, ltb}
 use lib.ListN.{drop, length, replicate, take}
 use Rattle.standard.specs.Notation.{if_then_else_}
 use Rattle.standard.specs.Bits.{window, z}
-use Rattle.standard.specs.Generator.{State, _⟨_⟩, after, wellFormed, wordAt, zeros}
-use Rattle.zuc.specs.Reading.{stateOf}
-use Rattle.registers.specs.Tagging.{Tagging}
+use Rattle.standard.specs.Generator.{Cells, State, _⟨_⟩, after, wellFormed, wordAt, zeros}
+use Rattle.zuc.specs.Reading.{Draw, stateOf}
+use Rattle.registers.specs.Tagging.{Tagging, extraState, extraWord, updated}
 use Rattle.registers.specs.declared.Fresh.{Fresh}
 use Rattle.registers.specs.declared.TagState.{TagState}
 
@@ -98,8 +98,19 @@ allZero (x ∷ rest) = eqb x 0 && allZero rest
 -- waiting byte count is not below the width, a waiting byte at or past that count is not zero, or an unused part is not zero
 unfoldable pub formed : Stored → Bool
 formed s =
-    wellFormed (s .generator .cells) && isWidth (s .width) && ltb (s .cnt) (s .width) && allZero (drop (s .cnt) (s .rem))
-    && allZero (unused (s .width) (s .key) (s .tag))
+    wellFormed (s .generator .cells) && isWidth (s .width) && allZero (unused (s .width) (s .key) (s .tag)) && ltb (s .cnt) (s .width)
+    && allZero (drop (s .cnt) (s .rem))
+
+-- a state that a struct of a width can hold, and a struct that holds one: what the inner functions ask
+pub record Good (width : ℕ) (st : Tagging) : Type 0 where
+  pub a-width : Width width
+  pub sound : Cells (st .generator .cells)
+  pub tag-lt : st .tag < 2 ^ (width * 8)
+  pub short : length (st .waiting) < width
+
+pub record Held (s : Stored) : Type 0 where
+  pub good : Good (s .width) (taggingOf s)
+  pub packs : packed (s .width) (taggingOf s) ≡ s
 
 -- a state of zeros
 unfoldable pub zeroStored : Stored
@@ -124,3 +135,13 @@ wordsOf r = record { words = r .words; state = stateOf (r .next) }
 -- the next t bits of a generator, and its state after them
 unfoldable pub fresh : ℕ → State → Words
 fresh width σ = record { words = tagWords width (window (z (wordAt σ)) 0 (width * 8)); state = after (width / 4) σ }
+
+-- the bytes from i up to a returned place have been taken in, at least one
+pub record Turned (s : Stored) (message : List ℕ) (i : ℕ) (r : Stored) (at : ℕ) : Type 0 where
+  pub on : i < at
+  pub within : at ≤ length message
+  pub held : r ≡ packed (s .width) (updated (s .width * 8) (taggingOf s) (take (at - i) (drop i message)))
+
+-- the extra word of ZUC-128 and EIA3, and the generator after it
+abbrev pub extraDraw : Tagging → ℕ → Draw
+extraDraw st n = record { word = extraWord st n; state = extraState st n }

@@ -1,8 +1,8 @@
 -- A tag in the making at t bits, as numbers, and what starts, message bytes and closings do to it (document 01, "Tags").
 use mathlib.Core.List.{List, [], _∷_, _++_}
-use Prim.Native.Nat.{ℕ, suc, _+_, _*_, _/_, _%_, _^_}
+use Prim.Native.Nat.{ℕ, suc, _+_, _-_, _*_, _/_, _%_, _^_}
 use lib.Dec.{eqb, ltb}
-use lib.ListN.{drop, length, take}
+use lib.ListN.{drop, getD, length, take}
 use Rattle.standard.specs.Notation.{_⊕_, if_then_else_}
 use Rattle.standard.specs.Bits.{M, bitOf, window, z}
 use Rattle.standard.specs.Generator.{State, after, next, word, wordAt}
@@ -28,6 +28,10 @@ begun-ZUC256 t σ =
       tag = window (z (wordAt σ)) 0 t;
       waiting = [];
     }
+
+-- what both have: a tag, and the next 2t bits in the key pair
+unfoldable pub begun : ℕ → ℕ → State → Tagging
+begun t tag σ = record { generator = after (2 * (t / 32)) σ; key = window (z (wordAt σ)) 0 (t + t); tag = tag; waiting = [] }
 
 -- a block of t message bits: the key pair's windows at its set bits go into the tag, and the key pair moves on by t bits
 unfoldable pub fed : ℕ → Tagging → List ℕ → Tagging
@@ -77,3 +81,7 @@ extraState st n = if eqb n 0 then st .generator else next (st .generator)
 
 unfoldable pub closed-EIA3 : Tagging → List ℕ → ℕ → ℕ
 closed-EIA3 st tail l = closed-ZUC256 32 st tail l ⊕ extraWord (ended 32 st tail l) (leftOver (ended 32 st tail l) l)
+
+-- the byte that closes a message, by the byte after it and the r bits of it that are the message's: a set bit stands after them
+unfoldable pub lastByte : List ℕ → ℕ → ℕ
+lastByte rest r = if eqb r 0 then 128 else (getD rest 0 0 / 2 ^ (8 - r) * 2 + 1) * 2 ^ (7 - r)

@@ -16,7 +16,10 @@ use sums::sum_128;
 use words::word_of;
 use zuc::Zuc;
 
+pub mod closing;
+pub mod forms;
 pub mod sums;
+pub mod updates;
 
 // The generator, the key pair and the tag in 64-bit words (as many as the width asks, the others zero), the bytes that wait for a
 // block with zeros after them, their count, and the tag's width in bytes.
