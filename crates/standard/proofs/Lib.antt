@@ -7,4 +7,5 @@ pub mod Generator
 pub mod Sum
 pub mod Extra
 pub mod Linear
+pub mod Listed
 pub mod Examples

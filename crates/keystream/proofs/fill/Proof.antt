@@ -1,0 +1,30 @@
+-- `fill` is the outcome of a fill: refused and untouched where the test of the cells fails, and else a word for each place.
+use borrow.Author.Tests.{not-false, not-true}
+use mathlib.Core.Path.{_∙_, refl, sym}
+use Rattle.keystream.specs.Draws.{fillOutcome}
+use Rattle.standard.proofs.Cells.{wellFormed-cells}
+use borrow.Author.Needs.{needs}
+use Rattle.keystream.proofs.fill.Statement.{statement}
+use Rattle.keystream.proofs.fill.Tie as tie
+
+returns : tie.Need-returns
+unfolding fillOutcome
+returns c = rw (sym (c .before .is-well-formed .ensures) ∙ not-true (c .before .is-well-formed .result) (c .if1 .taken)) refl
+
+words-into-requires : tie.Need-words-into-requires
+words-into-requires c κs =
+    let tested = c .before in
+    wellFormed-cells _ (search needs) (sym (tested .before .is-well-formed .ensures) ∙ not-false (tested .before .is-well-formed .result) (tested .if1 .left))
+
+returns-2 : tie.Need-returns-2
+unfolding fillOutcome
+returns-2 c =
+    let filled = c .before .before in
+    let tested = filled .before .before in
+    rw (sym (tested .before .is-well-formed .ensures) ∙ not-false (tested .before .is-well-formed .result) (tested .if1 .left))
+    (λ i. record { number = 0; state = filled .words-into .ensures .0 i; buffer = filled .words-into .ensures .1 i })
+
+pub fill-spec : {M : Type 1} → statement M
+fill-spec =
+    tie.close
+    (tie.spec (λ c κs. search needs) returns words-into-requires (λ c. search needs) returns-2)

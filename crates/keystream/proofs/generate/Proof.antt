@@ -1,0 +1,31 @@
+-- `generate` is the outcome of a draw: refused where the test of the cells fails, and else the word and the next state.
+use borrow.Author.Tests.{not-false, not-true}
+use mathlib.Core.Path.{_∙_, refl, sym}
+use Rattle.keystream.specs.Draws.{drawOutcome}
+use Rattle.standard.proofs.Cells.{wellFormed-cells}
+use Rattle.standard.specs.Boxes.{S₀-table, S₁-table}
+use borrow.Author.Needs.{needs}
+use Rattle.keystream.proofs.generate.Statement.{statement}
+use Rattle.keystream.proofs.generate.Tie as tie
+
+returns : tie.Need-returns
+unfolding drawOutcome
+returns c = rw (sym (c .before .is-well-formed .ensures) ∙ not-true (c .before .is-well-formed .result) (c .if1 .taken)) refl
+
+draw-requires : tie.Need-draw-requires
+unfolding S₀-table S₁-table
+draw-requires c κs =
+    let tested = c .before .before in
+    (refl, (refl, wellFormed-cells _ (search needs) (sym (tested .before .is-well-formed .ensures) ∙ not-false (tested .before .is-well-formed .result) (tested .if1 .left))))
+
+returns-2 : tie.Need-returns-2
+unfolding drawOutcome
+returns-2 c =
+    let tested = c .before .before .before .before in
+    rw (sym (tested .before .is-well-formed .ensures) ∙ not-false (tested .before .is-well-formed .result) (tested .if1 .left))
+    (λ i. record { number = 0; word = c .before .draw .ensures i .word; state = c .before .draw .ensures i .state })
+
+pub generate-spec : {M : Type 1} → statement M
+generate-spec =
+    tie.close
+    (tie.spec (λ c κs. search needs) returns draw-requires returns-2)

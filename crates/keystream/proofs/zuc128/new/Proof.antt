@@ -1,0 +1,40 @@
+-- `new` is the ZUC-128 start: each refusal by its test, and else start-up of the loaded cells.
+use borrow.Author.Tests.{eq-eqb, ne-eqb}
+use denote.Ref.{now}
+use lib.ListN.{length}
+use mathlib.Core.Path.{_∙_, ap, refl, sym}
+use Rattle.keystream.specs.Starts.{begun, start₁₂₈}
+use Rattle.standard.specs.Loading.{D}
+use borrow.Author.Needs.{needs}
+use Rattle.keystream.proofs.zuc128.new.Statement.{statement}
+use Rattle.keystream.proofs.zuc128.new.Tie as tie
+
+returns : tie.Need-returns
+unfolding start₁₂₈
+returns c =
+    let key = now (c .before .before .before .before .args .key) in
+    rw (ne-eqb (length key) 16 (c .before .if1 .taken)) (c .refused .ensures)
+
+returns-2 : tie.Need-returns-2
+unfolding start₁₂₈
+returns-2 c =
+    let a = c .before .before .before .before .before .args in
+    rw (eq-eqb (length (now (a .key))) 16 (c .before .before .if1 .left), ne-eqb (length (now (a .iv))) 16 (c .before .if2 .taken))
+    (c .refused2 .ensures)
+
+load-requires : tie.Need-load-requires
+unfolding D
+load-requires c κs = (refl, (c .before .before .if1 .left, c .before .if2 .left))
+
+returns-3 : tie.Need-returns-3
+unfolding start₁₂₈
+returns-3 c =
+    let tested = c .before .before .before in
+    let a = tested .before .before .before .before .args in
+    rw (eq-eqb (length (now (a .key))) 16 (tested .before .if1 .left), eq-eqb (length (now (a .iv))) 16 (tested .if2 .left))
+    (c .started-from .ensures ∙ ap begun (c .before .load .ensures .0))
+
+pub new-spec : {M : Type 1} → statement M
+new-spec =
+    tie.close
+    (tie.spec (λ c κs. search needs) returns (λ c κs. search needs) returns-2 load-requires (λ c κs. search needs) returns-3)

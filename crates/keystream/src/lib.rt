@@ -1,0 +1,136 @@
+// The public keystream: starts (in the modules), a draw, and a buffer of words.
+ghost use lib.ListN.{length};
+ghost use mathlib.Core.Path.{_≡_};
+ghost use Rattle.keystream.specs.Draws.{drawTold, drawOutcome, fillTold, fillOutcome};
+ghost use Rattle.keystream.specs.Starts.{begun, startTold, startNumber};
+ghost use Rattle.standard.specs.Generator.{Cells, after, wordAt, zeros};
+ghost use Rattle.standard.specs.Loading.{listed};
+ghost use Rattle.zuc.specs.Reading.{stateOf};
+use zuc::Zuc;
+use zuc::boxes::S0;
+use zuc::boxes::S1;
+
+pub mod eea3;
+pub mod zuc128;
+pub mod zuc256;
+
+// A start's answer: 0, or refusal 1, 2 or 3.
+pub enum StartAnswer {
+    Started,
+    BadWidth,
+    BadKey,
+    BadIv,
+}
+
+// A start: its answer, and the generator, of zeros where it was refused.
+pub struct Start {
+    pub answer: StartAnswer,
+    pub state: Zuc,
+}
+
+// A draw's answer: the word, or refusal 4.
+pub enum DrawAnswer {
+    Word(u32),
+    Malformed,
+}
+
+// A draw: its answer, and the state after it, the caller's where it was refused.
+pub struct Drew {
+    pub answer: DrawAnswer,
+    pub state: Zuc,
+}
+
+// The answer of a fill: done, or refusal 4.
+pub enum FillAnswer {
+    Filled,
+    Unfilled,
+}
+
+// A fill: its answer, and the state after it, the caller's where it was refused.
+pub struct Filling {
+    pub answer: FillAnswer,
+    pub state: Zuc,
+}
+
+// A refused start.
+fn refused(answer: StartAnswer) -> Start
+    ensures { λ r. ⌜ startTold r ≡ record { number = startNumber answer; state = zeros } ⌝ }
+{
+    Start {
+        answer,
+        state: Zuc {
+            s: [0u32; 16],
+            r1: 0,
+            r2: 0,
+        },
+    }
+}
+
+// An accepted start: loaded cells, brought through start-up.
+fn started_from(loaded: Zuc) -> Start
+    requires { ⌜ Cells (stateOf loaded .cells) ⌝ }
+    ensures { λ r. ⌜ startTold r ≡ begun (stateOf loaded) ⌝ }
+{
+    let t0 = S0;
+    let t1 = S1;
+    let state = zuc::init(&t0, &t1, loaded);
+    Start {
+        answer: StartAnswer::Started,
+        state,
+    }
+}
+
+// The next word of the keystream.
+pub fn generate(state: Zuc) -> Drew
+    ensures { λ r. ⌜ drawTold r ≡ drawOutcome (stateOf state) ⌝ }
+{
+    if !zuc::is_well_formed(state) {
+        return Drew {
+            answer: DrawAnswer::Malformed,
+            state,
+        };
+    }
+    let t0 = S0;
+    let t1 = S1;
+    let drawn = zuc::draw(&t0, &t1, state);
+    let next = drawn.next;
+    Drew {
+        answer: DrawAnswer::Word(drawn.word),
+        state: next,
+    }
+}
+
+// A buffer filled with words. It calls the parts of a draw, which are then inlined here.
+fn words_into(state: Zuc, buffer: &mut [u32]) -> Zuc
+    requires { ⌜ Cells (stateOf state .cells) ⌝ }
+    ensures { λ r. ⌜ (stateOf r ≡ after (length (now (buffer .entry))) (stateOf state)) × (now (buffer .exit) ≡ listed (wordAt (stateOf state)) 0 (length (now (buffer .entry)))) ⌝ }
+{
+    let t0 = S0;
+    let t1 = S1;
+    let mut z = state;
+    for i in 0..buffer.len() {
+        let moved = zuc::shift(z);
+        let out = zuc::f(&t0, &t1, moved);
+        buffer[i] = out.word ^ zuc::x3(moved);
+        let next = out.next;
+        z = next;
+    }
+    z
+}
+
+// The next words of the keystream, as many as the buffer holds.
+pub fn fill(state: Zuc, buffer: &mut [u32]) -> Filling
+    ensures { λ r. ⌜ fillTold r (now (buffer .exit)) ≡ fillOutcome (stateOf state) (now (buffer .entry)) ⌝ }
+{
+    if !zuc::is_well_formed(state) {
+        return Filling {
+            answer: FillAnswer::Unfilled,
+            state,
+        };
+    }
+    let next = words_into(state, buffer);
+    Filling {
+        answer: FillAnswer::Filled,
+        state: next,
+    }
+}
