@@ -1,2 +1,4 @@
 pub mod Loaded
 pub mod Outcomes
+pub mod Runs
+pub mod Theorems

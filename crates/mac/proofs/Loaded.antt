@@ -78,23 +78,52 @@ module _ (row k iv : List ℕ) (rule : Row 7 row) (hk : Bytes k) (hv : Bytes iv)
   pub cells-256 : Cells (load₂₅₆ row k iv .cells)
   unfolding load₂₅₆ cells₂₅₆
   cells-256 =
-      all-cells _ refl
-      (plain 0 _ _ _ (lit< tt) (hk 0) (hk 21) (hk 16),
-      (plain 1 _ _ _ (lit< tt) (hk 1) (hk 22) (hk 17),
-      (plain 2 _ _ _ (lit< tt) (hk 2) (hk 23) (hk 18),
-      (plain 3 _ _ _ (lit< tt) (hk 3) (hk 24) (hk 19),
-      (plain 4 _ _ _ (lit< tt) (hk 4) (hk 25) (hk 20),
-      (beside 5 _ _ _ _ (lit< tt) (six 17 (omega arith)) (byte 0 (lit< tt)) (hk 5) (hk 26),
-      (beside 6 _ _ _ _ (lit< tt) (six 18 (omega arith)) (byte 1 (lit< tt)) (hk 6) (hk 27),
-      (beside 7 _ _ _ _ (lit< tt) (six 19 (omega arith)) (byte 10 (lit< tt)) (hk 7) (byte 2 (lit< tt)),
-      (beside 8 _ _ _ _ (lit< tt) (six 20 (omega arith)) (hk 8) (byte 3 (lit< tt)) (byte 11 (lit< tt)),
-      (beside 9 _ _ _ _ (lit< tt) (six 21 (omega arith)) (hk 9) (byte 12 (lit< tt)) (byte 4 (lit< tt)),
-      (beside 10 _ _ _ _ (lit< tt) (six 22 (omega arith)) (byte 5 (lit< tt)) (hk 10) (hk 28),
-      (beside 11 _ _ _ _ (lit< tt) (six 23 (omega arith)) (hk 11) (byte 6 (lit< tt)) (byte 13 (lit< tt)),
-      (beside 12 _ _ _ _ (lit< tt) (six 24 (omega arith)) (hk 12) (byte 7 (lit< tt)) (byte 14 (lit< tt)),
-      (plain 13 _ _ _ (lit< tt) (hk 13) (byte 15 (lit< tt)) (byte 8 (lit< tt)),
-      (beside 14 _ _ _ _ (lit< tt) (omega (arith, hk 31)) (hk 14) (byte 16 (lit< tt)) (byte 9 (lit< tt)),
-      (beside 15 _ _ _ _ (lit< tt) (omega (arith, hk 31)) (hk 15) (hk 30) (hk 29), tt))))))))))))))))
+      all-cells _ refl (
+        plain 0 _ _ _ (lit< tt) (hk 0) (hk 21) (hk 16),
+        (
+          plain 1 _ _ _ (lit< tt) (hk 1) (hk 22) (hk 17),
+          (
+            plain 2 _ _ _ (lit< tt) (hk 2) (hk 23) (hk 18),
+            (
+              plain 3 _ _ _ (lit< tt) (hk 3) (hk 24) (hk 19),
+              (
+                plain 4 _ _ _ (lit< tt) (hk 4) (hk 25) (hk 20),
+                (
+                  beside 5 _ _ _ _ (lit< tt) (six 17 (omega arith)) (byte 0 (lit< tt)) (hk 5) (hk 26),
+                  (
+                    beside 6 _ _ _ _ (lit< tt) (six 18 (omega arith)) (byte 1 (lit< tt)) (hk 6) (hk 27),
+                    (
+                      beside 7 _ _ _ _ (lit< tt) (six 19 (omega arith)) (byte 10 (lit< tt)) (hk 7) (byte 2 (lit< tt)),
+                      (
+                        beside 8 _ _ _ _ (lit< tt) (six 20 (omega arith)) (hk 8) (byte 3 (lit< tt)) (byte 11 (lit< tt)),
+                        (
+                          beside 9 _ _ _ _ (lit< tt) (six 21 (omega arith)) (hk 9) (byte 12 (lit< tt)) (byte 4 (lit< tt)),
+                          (
+                            beside 10 _ _ _ _ (lit< tt) (six 22 (omega arith)) (byte 5 (lit< tt)) (hk 10) (hk 28),
+                            (
+                              beside 11 _ _ _ _ (lit< tt) (six 23 (omega arith)) (hk 11) (byte 6 (lit< tt)) (byte 13 (lit< tt)),
+                              (
+                                beside 12 _ _ _ _ (lit< tt) (six 24 (omega arith)) (hk 12) (byte 7 (lit< tt)) (byte 14 (lit< tt)),
+                                (
+                                  plain 13 _ _ _ (lit< tt) (hk 13) (byte 15 (lit< tt)) (byte 8 (lit< tt)),
+                                  (
+                                    beside 14 _ _ _ _ (lit< tt) (omega (arith, hk 31)) (hk 14) (byte 16 (lit< tt)) (byte 9 (lit< tt)),
+                                    (beside 15 _ _ _ _ (lit< tt) (omega (arith, hk 31)) (hk 15) (hk 30) (hk 29), tt),
+                                  ),
+                                ),
+                              ),
+                            ),
+                          ),
+                        ),
+                      ),
+                    ),
+                  ),
+                ),
+              ),
+            ),
+          ),
+        ),
+      )
 
 -- the starts
 ready-require : (test : Bool) (n : ℕ) (o : StartOutcome) → Ready o → Ready (require test (suc n) o)

@@ -18,7 +18,24 @@ fn iv(count: u32, bearer: u8, direction: u8) -> [u8; 16]
     let c3 = byte_of(count, 3);
     let b = bearer % 32 * 8;
     let d = direction % 2 * 128;
-    [c0, c1, c2, c3, b, 0, 0, 0, c0 ^ d, c1, c2, c3, b, 0, 0 ^ d, 0]
+    [
+        c0,
+        c1,
+        c2,
+        c3,
+        b,
+        0,
+        0,
+        0,
+        c0 ^ d,
+        c1,
+        c2,
+        c3,
+        b,
+        0,
+        0 ^ d,
+        0,
+    ]
 }
 
 // A tag state, or refusal 2 for a key that is not 16 bytes.
@@ -30,7 +47,14 @@ pub fn new(count: u32, bearer: u8, direction: u8, key: &[u8]) -> Start128
 }
 
 // A whole message at once: refusal 2 or 5, lowest first.
-pub fn compute(count: u32, bearer: u8, direction: u8, key: &[u8], message: &[u8], l: usize) -> Once128
+pub fn compute(
+    count: u32,
+    bearer: u8,
+    direction: u8,
+    key: &[u8],
+    message: &[u8],
+    l: usize,
+) -> Once128
     ensures { λ r. ⌜ onceTold-128 r ≡ onceOutcome-EIA3 count bearer direction (now (key .entry)) (now (message .entry)) l ⌝ }
 {
     let v = iv(count, bearer, direction);

@@ -2,8 +2,6 @@
 ghost use mathlib.Core.Path.{_≡_};
 ghost use Rattle.mac.specs.Calls.{finishOutcome-128, finishTold-128, formed-128, onceOutcome-128, onceTold-128, startOutcome-128, startTold-128, updateOutcome, updateTold-128};
 ghost use Rattle.registers.specs.Stored.{storedOf};
-use registers::closing::close_128;
-use registers::forms::zero_state;
 use super::Finish128;
 use super::Mac128;
 use super::Once128;
@@ -14,6 +12,8 @@ use super::begin_from;
 use super::is_formed_128;
 use super::tag_from;
 use super::update_state;
+use registers::closing::close_128;
+use registers::forms::zero_state;
 use words::bits_fit;
 use zuc::boxes::S0;
 use zuc::boxes::S1;

@@ -294,16 +294,19 @@ pub tag-back : {w : ℕ} → Width w → (t : ℕ) → tagOf w (tagWords w t) �
 unfolding tagOf tagWords
 tag-back h t = ⊎-elim (λ e. rw e refl) (λ o. ⊎-elim (λ e. rw e refl) (λ e. rw e (split t 64)) o) h
 
+pub read-back : {w : ℕ} → Width w → (st : Tagging) → taggingOf (packed w st) ≡ st
+unfolding taggingOf packed
+read-back v st =
+    λ i. record {
+      generator = st .generator;
+      key = key-back v (st .key) i;
+      tag = tag-back v (st .tag) i;
+      waiting = take-at (st .waiting) (replicate (16 - length (st .waiting)) 0) (length (st .waiting)) refl i;
+    }
+
 module _ {w : ℕ} {st : Tagging} (g : Good w st) where
   pub reads : taggingOf (packed w st) ≡ st
-  unfolding taggingOf packed
-  reads =
-      λ i. record {
-        generator = st .generator;
-        key = key-back (g .a-width) (st .key) i;
-        tag = tag-back (g .a-width) (st .tag) i;
-        waiting = take-at (st .waiting) (replicate (16 - length (st .waiting)) 0) (length (st .waiting)) refl i;
-      }
+  reads = read-back (g .a-width) st
 
   unused-packed : allZero (unused w (keyWords w (st .key)) (tagWords w (st .tag))) ≡ true
   unfolding unused keyWords tagWords allZero

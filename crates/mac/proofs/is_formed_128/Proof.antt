@@ -17,16 +17,18 @@ returns c =
 returns-2 : tie.Need-returns-2
 unfolding formed-128
 returns-2 c =
-    let f = c .before .before in
-    (rw (sym (f .is-formed .ensures .0) ∙ not-false (f .is-formed .result) (c .before .if1 .left), ne-eqb (f .before .args .state .width) 4 (c .if2 .taken)) refl,
-    λ e. f .is-formed .ensures .1 (not-false (f .is-formed .result) (c .before .if1 .left)))
+    let f = c .before .before in (
+      rw (sym (f .is-formed .ensures .0) ∙ not-false (f .is-formed .result) (c .before .if1 .left), ne-eqb (f .before .args .state .width) 4 (c .if2 .taken)) refl,
+      λ e. f .is-formed .ensures .1 (not-false (f .is-formed .result) (c .before .if1 .left)),
+    )
 
 returns-3 : tie.Need-returns-3
 unfolding formed-128
 returns-3 c =
-    let f = c .before .before in
-    (rw (sym (f .is-formed .ensures .0) ∙ not-false (f .is-formed .result) (c .before .if1 .left), eq-eqb (f .before .args .state .width) 4 (c .if2 .left)) refl,
-    λ e. f .is-formed .ensures .1 (not-false (f .is-formed .result) (c .before .if1 .left)))
+    let f = c .before .before in (
+      rw (sym (f .is-formed .ensures .0) ∙ not-false (f .is-formed .result) (c .before .if1 .left), eq-eqb (f .before .args .state .width) 4 (c .if2 .left)) refl,
+      λ e. f .is-formed .ensures .1 (not-false (f .is-formed .result) (c .before .if1 .left)),
+    )
 
 pub is-formed-128-spec : {M : Type 1} → statement M
 is-formed-128-spec = tie.close (tie.spec (λ c κs. search needs) returns returns-2 returns-3)

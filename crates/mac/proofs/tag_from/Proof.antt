@@ -39,10 +39,19 @@ close-128-requires c κs =
     let i = b .before .before .before in
     let f = i .before in
     let m = f .before in
-    let s = m .before .before .before .before in
-    (refl, (refl, (held-as (b .begin-128 .ensures) (good-EIA3 (stateOf (s .args .start .state)) (s .pre .0 (ap startNumber (m .enum-told .given .1)))),
-    (ap (λ (x : Stored). x .width) (b .begin-128 .ensures),
-    leb-true (s .args .l) (length (now (s .args .message)) * 8) (fits f (not-false (f .bits-fit .result) (i .if1 .left)))))))
+    let s = m .before .before .before .before in (
+      refl,
+      (
+        refl,
+        (
+          held-as (b .begin-128 .ensures) (good-EIA3 (stateOf (s .args .start .state)) (s .pre .0 (ap startNumber (m .enum-told .given .1)))),
+          (
+            ap (λ (x : Stored). x .width) (b .begin-128 .ensures),
+            leb-true (s .args .l) (length (now (s .args .message)) * 8) (fits f (not-false (f .bits-fit .result) (i .if1 .left))),
+          ),
+        ),
+      ),
+    )
 
 returns-2 : tie.Need-returns-2
 returns-2 c =

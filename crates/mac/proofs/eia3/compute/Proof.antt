@@ -23,9 +23,10 @@ tag-from-requires : tie.Need-tag-from-requires
 tag-from-requires c κs =
     let v = c .before .before in
     let k = v .before .before in
-    let key = now (k .before .args .key) in
-    (subst Ready (sym (c .new .ensures)) (ready-128 key (v .iv .result) (λ i. omega (arith, k .shared-slice-known .given i)) (λ i. iv-bytes v i .fits)),
-    λ e. no-width-128 key (v .iv .result) (ap (λ (o : StartOutcome). o .number) (sym (c .new .ensures)) ∙ e))
+    let key = now (k .before .args .key) in (
+      subst Ready (sym (c .new .ensures)) (ready-128 key (v .iv .result) (λ i. omega (arith, k .shared-slice-known .given i)) (λ i. iv-bytes v i .fits)),
+      λ e. no-width-128 key (v .iv .result) (ap (λ (o : StartOutcome). o .number) (sym (c .new .ensures)) ∙ e),
+    )
 
 returns : tie.Need-returns
 returns c =

@@ -14,10 +14,11 @@ tag-from-requires : tie.Need-tag-from-requires
 tag-from-requires c κs =
     let v = c .before .before in
     let k = v .before in
-    let a = k .before .args in
-    (subst Ready (sym (c .new .ensures))
-    (ready-128 (now (a .key)) (now (a .iv)) (λ i. omega (arith, k .shared-slice-known .given i)) (λ i. omega (arith, v .shared-slice-known2 .given i))),
-    λ e. no-width-128 (now (a .key)) (now (a .iv)) (ap (λ (o : StartOutcome). o .number) (sym (c .new .ensures)) ∙ e))
+    let a = k .before .args in (
+      subst Ready (sym (c .new .ensures))
+          (ready-128 (now (a .key)) (now (a .iv)) (λ i. omega (arith, k .shared-slice-known .given i)) (λ i. omega (arith, v .shared-slice-known2 .given i))),
+      λ e. no-width-128 (now (a .key)) (now (a .iv)) (ap (λ (o : StartOutcome). o .number) (sym (c .new .ensures)) ∙ e),
+    )
 
 returns : tie.Need-returns
 returns c =

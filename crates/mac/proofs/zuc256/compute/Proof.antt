@@ -72,9 +72,16 @@ close-256-requires c κs =
     let m = f .before in
     let n = m .before .before .before in
     let a = n .before .before .before .before .args in
-    let e = ap startNumber (m .enum-told .given .1) in
-    (refl, (refl, (held-as (b .begin-256 .ensures) (good-ZUC256 (width n e) (stateOf (n .new-with-d .result .state)) (sound n e)),
-    leb-true (a .l) (length (now (a .message)) * 8) (sym (f .bits-fit .ensures) ∙ not-false (f .bits-fit .result) (i .if1 .left)))))
+    let e = ap startNumber (m .enum-told .given .1) in (
+      refl,
+      (
+        refl,
+        (
+          held-as (b .begin-256 .ensures) (good-ZUC256 (width n e) (stateOf (n .new-with-d .result .state)) (sound n e)),
+          leb-true (a .l) (length (now (a .message)) * 8) (sym (f .bits-fit .ensures) ∙ not-false (f .bits-fit .result) (i .if1 .left)),
+        ),
+      ),
+    )
 
 returns-2 : tie.Need-returns-2
 returns-2 c =

@@ -27,10 +27,17 @@ begin-256-requires c κs =
     let v = n .before in
     let k = v .before in
     let a = k .before .args in
-    let e = ap startNumber (m .enum-told .given .1) in
-    (refl, (refl, (subst Ready (sym (n .new-with-d .ensures))
-    (ready-256 (a .width) (now (a .key)) (now (a .iv)) (λ i. omega (arith, k .shared-slice-known .given i)) (λ i. omega (arith, v .shared-slice-known2 .given i))) e,
-    accepted-width (a .width) (now (a .key)) (now (a .iv)) (zero-number n e))))
+    let e = ap startNumber (m .enum-told .given .1) in (
+      refl,
+      (
+        refl,
+        (
+          subst Ready (sym (n .new-with-d .ensures))
+              (ready-256 (a .width) (now (a .key)) (now (a .iv)) (λ i. omega (arith, k .shared-slice-known .given i)) (λ i. omega (arith, v .shared-slice-known2 .given i))) e,
+          accepted-width (a .width) (now (a .key)) (now (a .iv)) (zero-number n e),
+        ),
+      ),
+    )
 
 returns : tie.Need-returns
 unfolding startOutcome-256
