@@ -2,3 +2,4 @@ pub mod Loaded
 pub mod Outcomes
 pub mod Runs
 pub mod Theorems
+pub mod Tight
