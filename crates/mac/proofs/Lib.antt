@@ -3,3 +3,4 @@ pub mod Outcomes
 pub mod Runs
 pub mod Theorems
 pub mod Tight
+pub mod Counts

@@ -136,7 +136,7 @@ ready-128 k iv hk hv =
     ready-require (eqb (length k) 16) 1 _
     (ready-require (eqb (length iv) 16) 2 (record { number = 0; state = started (load₁₂₈ k iv) }) (λ e. sound-started (load₁₂₈ k iv) (cells-128 k iv hk hv)))
 
-row-of : (w : ℕ) → Row 7 (rowOf w)
+pub row-of : (w : ℕ) → Row 7 (rowOf w)
 row-of w = by (eqb w 4) (eqb w 8)
   where
     by : (a b : Bool) → Row 7 (if a then d-tag₃₂ else if b then d-tag₆₄ else d-tag₁₂₈)

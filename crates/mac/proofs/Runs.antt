@@ -106,13 +106,14 @@ start-EIA3 count bearer direction key = from-128 key (IV-EIA3 count bearer direc
 pub start-256 : (w : ℕ) (key iv : List ℕ) (start : Outcome) → start ≡ startOutcome-256 w key iv → start .number ≡ 0
     → Width w × (start .state ≡ packed w (begun-ZUC256 (w * 8) (started (load₂₅₆ (rowOf w) key iv))))
 unfolding startOutcome-256 startTag₂₅₆ start₂₅₆
-start-256 w key iv start e z =
-    (accepted-width w key iv number,
-    ap (λ (x : Outcome). x .state) e
-    ∙ ap (λ (o : StartOutcome). begun-256 w o .state)
-    (require-state (isWidth w) 0 _ number
-    ∙ require-state (eqb (length key) 32) 1 _ inner
-    ∙ require-state (eqb (length iv) 23) 2 _ (require-inner (eqb (length key) 32) 1 _ inner)))
+start-256 w key iv start e z = (
+  accepted-width w key iv number,
+  ap (λ (x : Outcome). x .state) e
+      ∙ ap (λ (o : StartOutcome). begun-256 w o .state)
+      (require-state (isWidth w) 0 _ number
+      ∙ require-state (eqb (length key) 32) 1 _ inner
+      ∙ require-state (eqb (length iv) 23) 2 _ (require-inner (eqb (length key) 32) 1 _ inner)),
+)
   where
     number : startTag₂₅₆ w key iv .number ≡ 0
     number = begun-number-256 w (startTag₂₅₆ w key iv) (ap (λ (x : Outcome). x .number) (sym e) ∙ z)
