@@ -2,6 +2,7 @@
 mod masks;
 mod starts;
 mod table;
+mod tags;
 
 fn main() {
     table::head();
@@ -11,4 +12,8 @@ fn main() {
     masks::p11();
     masks::refusals();
     masks::counts();
+    tags::published_eia3();
+    tags::published_zuc256();
+    tags::p9_p10();
+    tags::refusals();
 }
