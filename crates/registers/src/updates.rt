@@ -26,7 +26,7 @@ pub fn begin(t0: &[u8; 256], t1: &[u8; 256], width: usize, tag: [u64; 2], g: Zuc
         g: next,
         key,
         tag,
-        rem: [0u8; 16],
+        rem: [0; 16],
         cnt: 0,
         width,
     }
