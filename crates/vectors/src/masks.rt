@@ -1,11 +1,11 @@
 // The published EEA3 sets in both modes, P11 of document 01 through the code, and the refusals of masking.
-use super::table::front;
-use super::table::least;
 use super::table::number;
 use super::table::row;
-use super::table::unhex;
 use mask::MaskAnswer;
 use mask::Masked;
+use parts::front;
+use parts::least;
+use parts::unhex;
 use zuc::Zuc;
 
 // The EEA3 fields of a set, and its bit length.

@@ -1,12 +1,12 @@
 // The published keystreams, and the refusals of starts and draws.
-use super::table::bytes_of;
-use super::table::front;
 use super::table::number;
 use super::table::row;
-use super::table::unhex;
 use keystream::DrawAnswer;
 use keystream::Start;
 use keystream::StartAnswer;
+use parts::bytes_of;
+use parts::front;
+use parts::unhex;
 use zuc::Zuc;
 
 // Document 01's number of an answer.

@@ -1,54 +1,11 @@
 // A table for people: name, expected, got, ok. Bytes are given and shown in hexadecimal.
-ghost use lib.ListN.{length};
-ghost use Prim.Native.Nat.{_*_, _<_, _≤_};
 use io::print_decimal;
 use io::print_hex;
 use io::write_all;
 use libc::STDOUT_FILENO;
-
-// The value of a hexadecimal digit.
-fn digit(c: u8) -> u8
-    ensures { λ r. ⌜ r < 16 ⌝ }
-{
-    if c < b'A' {
-        return c % 16;
-    }
-    (c % 16 + 9) % 16
-}
-
-pub fn least(a: usize, b: usize) -> usize
-    ensures { λ r. ⌜ (r ≤ a) × (r ≤ b) ⌝ }
-{
-    if a < b { a } else { b }
-}
-
-// The first n bytes, or all where there are fewer.
-pub fn front(s: &[u8], n: usize) -> &[u8] {
-    let m = least(n, s.len());
-    &s[..m]
-}
-
-// Hexadecimal text as bytes, as many as there is room for: how many.
-pub fn unhex(text: &[u8], out: &mut [u8]) -> usize
-    ensures { λ r. ⌜ r ≤ length (now (out .entry)) ⌝ }
-{
-    let n = least(text.len() / 2, out.len());
-    for i in 0..n {
-        out[i] = digit(text[i * 2]) * 16 + digit(text[i * 2 + 1]);
-    }
-    n
-}
-
-// The bytes of words, highest first, as many whole words as there is room for: how many bytes.
-pub fn bytes_of(words: &[u32], out: &mut [u8]) -> usize
-    ensures { λ r. ⌜ r ≤ length (now (out .entry)) ⌝ }
-{
-    let n = least(words.len(), out.len() / 4) * 4;
-    for i in 0..n {
-        out[i] = words::byte_of(words[i / 4], i % 4);
-    }
-    n
-}
+use parts::front;
+use parts::least;
+use parts::unhex;
 
 fn put(text: &[u8]) {
     write_all(STDOUT_FILENO, text);

@@ -1,12 +1,8 @@
 // The published EIA3 and ZUC-256 tags, each at once and cut into updates; P9 and P10 of document 01 through the code; refusals.
 ghost use Prim.Native.Nat.{_≤_};
 use super::starts::start_number;
-use super::table::bytes_of;
-use super::table::front;
-use super::table::least;
 use super::table::number;
 use super::table::row;
-use super::table::unhex;
 use mac::Finish128;
 use mac::Finish256;
 use mac::Mac128;
@@ -17,6 +13,10 @@ use mac::Start128;
 use mac::Start256;
 use mac::Tag128;
 use mac::Tag256;
+use parts::bytes_of;
+use parts::front;
+use parts::least;
+use parts::unhex;
 use registers::TagState;
 use zuc::Zuc;
 

@@ -3,8 +3,8 @@ use lib.ListN.{length}
 use mathlib.Core.Path.{_≡_}
 use Prim.Native.Nat.{_*_, _-_, _≤_}
 use borrow.Author.Needs.{needs}
-use Rattle.vectors.proofs.table.bytes_of.Statement.{statement}
-use Rattle.vectors.proofs.table.bytes_of.Tie as tie
+use Rattle.parts.proofs.bytes_of.Statement.{statement}
+use Rattle.parts.proofs.bytes_of.Tie as tie
 
 abbrev Inv-loop : tie.InvT-loop
 Inv-loop words out₀ n i₀ out i = (n ≤ length words * 4) × (n ≤ length out₀) × (length out ≡ length out₀)

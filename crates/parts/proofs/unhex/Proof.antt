@@ -3,8 +3,8 @@ use lib.ListN.{length}
 use mathlib.Core.Path.{_≡_}
 use Prim.Native.Nat.{_-_, _/_, _≤_}
 use borrow.Author.Needs.{needs}
-use Rattle.vectors.proofs.table.unhex.Statement.{statement}
-use Rattle.vectors.proofs.table.unhex.Tie as tie
+use Rattle.parts.proofs.unhex.Statement.{statement}
+use Rattle.parts.proofs.unhex.Tie as tie
 
 abbrev Inv-loop : tie.InvT-loop
 Inv-loop text out₀ n i₀ out i = (n ≤ length text / 2) × (n ≤ length out₀) × (length out ≡ length out₀)

@@ -3,8 +3,8 @@ use lib.Seq.{length-take-le}
 use mathlib.Core.Path.{sym}
 use native.Mathlib.Omega.{arith}
 use borrow.Author.Needs.{needs}
-use Rattle.vectors.proofs.table.front.Statement.{statement}
-use Rattle.vectors.proofs.table.front.Tie as tie
+use Rattle.parts.proofs.front.Statement.{statement}
+use Rattle.parts.proofs.front.Tie as tie
 
 slice-aggregate-result : tie.Need-slice-aggregate-result
 slice-aggregate-result c = sym (length-take-le _ _ (omega arith))
