@@ -1,5 +1,8 @@
 pub mod Xor
 pub mod Window
+pub mod Each
+pub mod Kept
+pub mod Masking
 pub mod Table
 pub mod Permutation
 pub mod Cells

@@ -1,0 +1,106 @@
+//! 128-EIA3, the 3GPP integrity algorithm: a ZUC-128 tag with the IV that COUNT,
+//! BEARER and DIRECTION make.
+//!
+//! Of `bearer` the low 5 bits count, of `direction` the lowest, as in the crate.
+
+use crate::capi;
+use crate::refusal::{or_panic, Refusal};
+use crate::tag::{answered, started};
+use crate::zuc128::Zuc128Mac;
+
+/// 128-EIA3 MAC generator.
+pub struct Eia3Mac(Zuc128Mac);
+
+impl Eia3Mac {
+    /// Computes the MAC of a message.
+    ///
+    /// | name      | size     | description                           |
+    /// | --------- | -------- | ------------------------------------- |
+    /// | count     | 32 bits  | counter                               |
+    /// | bearer    | 5 bits   | carrier layer identification          |
+    /// | direction | 1 bit    | transmission direction identification |
+    /// | ik        | 128 bits | integrity key                         |
+    /// | msg       | -        | the input message                     |
+    /// | bitlen    | -        | bit length of the input message       |
+    ///
+    /// # Panics
+    /// If `bitlen` is more than `8 * msg.len()`.
+    #[must_use]
+    pub fn compute(
+        count: u32,
+        bearer: u8,
+        direction: u8,
+        ik: &[u8; 16],
+        msg: &[u8],
+        bitlen: usize,
+    ) -> u32 {
+        or_panic(Self::try_compute(count, bearer, direction, ik, msg, bitlen))
+    }
+
+    /// As [`compute`](Self::compute), of a key of any length, and refuses where
+    /// that panics.
+    ///
+    /// # Errors
+    /// [`Refusal::Key`], [`Refusal::BitLength`].
+    pub fn try_compute(
+        count: u32,
+        bearer: u8,
+        direction: u8,
+        ik: &[u8],
+        msg: &[u8],
+        bitlen: usize,
+    ) -> Result<u32, Refusal> {
+        answered(|tag| capi::eia3_tag(count, bearer, direction, ik, msg, bitlen, tag))
+    }
+
+    /// Creates a 128-EIA3 MAC generator.
+    #[must_use]
+    pub fn new(count: u32, bearer: u8, direction: u8, ik: &[u8; 16]) -> Self {
+        or_panic(Self::try_new(count, bearer, direction, ik))
+    }
+
+    /// As [`new`](Self::new), of a key of any length.
+    ///
+    /// # Errors
+    /// [`Refusal::Key`]: the key is not 16 bytes.
+    pub fn try_new(count: u32, bearer: u8, direction: u8, ik: &[u8]) -> Result<Self, Refusal> {
+        started(|state| capi::eia3_tag_start(state, count, bearer, direction, ik))
+            .map(|state| Self(Zuc128Mac(state)))
+    }
+
+    /// Updates the MAC generator with the bytes of a message.
+    ///
+    /// # Panics
+    /// If [`try_finish`](Self::try_finish) has closed it.
+    pub fn update(&mut self, msg: &[u8]) {
+        self.0.update(msg);
+    }
+
+    /// As [`update`](Self::update), and refuses where that panics.
+    ///
+    /// # Errors
+    /// [`Refusal::State`].
+    pub fn try_update(&mut self, msg: &[u8]) -> Result<(), Refusal> {
+        self.0.try_update(msg)
+    }
+
+    /// Finishes the MAC generation and returns the MAC.
+    ///
+    /// # Panics
+    /// If `bitlen` is more than `8 * tail.len()`, or if
+    /// [`try_finish`](Self::try_finish) has closed it.
+    #[must_use]
+    pub fn finish(self, tail: &[u8], bitlen: usize) -> u32 {
+        self.0.finish(tail, bitlen)
+    }
+
+    /// As [`finish`](Self::finish), and refuses where that panics. Once it has
+    /// answered a tag the generator is closed and refuses everything.
+    ///
+    /// # Errors
+    /// [`Refusal::State`], [`Refusal::BitLength`]; the generator is then as it
+    /// was and can go on.
+    pub fn try_finish(&mut self, tail: &[u8], bitlen: usize) -> Result<u32, Refusal> {
+        self.0.try_finish(tail, bitlen)
+    }
+}

@@ -1,0 +1,15 @@
+#![doc = include_str!("../README.md")]
+#![no_std]
+
+pub mod capi;
+pub mod eea3;
+pub mod eia3;
+pub mod zuc128;
+pub mod zuc256;
+
+mod ffi;
+mod generator;
+mod refusal;
+mod tag;
+
+pub use refusal::Refusal;

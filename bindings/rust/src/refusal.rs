@@ -1,0 +1,78 @@
+//! Why a call was refused.
+
+use core::fmt;
+
+/// Why a call was refused. Where several reasons apply, the one with the lowest
+/// number is given.
+#[derive(Clone, Copy, Debug, PartialEq, Eq, Hash)]
+pub enum Refusal {
+    /// The tag width is not 4, 8 or 16 bytes.
+    Width = 1,
+    /// The key is not 16 bytes, or 32 for ZUC-256.
+    Key = 2,
+    /// The IV is not 16 bytes, or 23 for ZUC-256.
+    Iv = 3,
+    /// The state is malformed; of a tag here: it is closed.
+    State = 4,
+    /// The bit length is more than 8 times the bytes given.
+    BitLength = 5,
+}
+
+impl Refusal {
+    const ALL: [Self; 5] = [
+        Self::Width,
+        Self::Key,
+        Self::Iv,
+        Self::State,
+        Self::BitLength,
+    ];
+
+    /// The number that the C interface answers.
+    #[must_use]
+    pub const fn number(self) -> u32 {
+        self as u32
+    }
+
+    /// What an answer of the C interface says.
+    ///
+    /// # Errors
+    /// The refusal, unless the answer is 0.
+    ///
+    /// # Panics
+    /// If the answer is none of 0..=5, which no function of the library answers.
+    pub fn check(answer: u32) -> Result<(), Self> {
+        if answer == 0 {
+            return Ok(());
+        }
+        match Self::ALL
+            .into_iter()
+            .find(|refusal| refusal.number() == answer)
+        {
+            Some(refusal) => Err(refusal),
+            None => panic!("the library answered {answer}"),
+        }
+    }
+}
+
+impl fmt::Display for Refusal {
+    fn fmt(&self, f: &mut fmt::Formatter<'_>) -> fmt::Result {
+        f.write_str(match self {
+            Self::Width => "the tag width is not 4, 8 or 16 bytes",
+            Self::Key => "the key has the wrong length",
+            Self::Iv => "the IV has the wrong length",
+            Self::State => "the state is malformed or the tag is closed",
+            Self::BitLength => "the bit length is more than 8 times the bytes given",
+        })
+    }
+}
+
+impl core::error::Error for Refusal {}
+
+/// The value, for the calls that panic as the crate's do.
+#[track_caller]
+pub(crate) fn or_panic<T>(answer: Result<T, Refusal>) -> T {
+    match answer {
+        Ok(value) => value,
+        Err(refusal) => panic!("{refusal}"),
+    }
+}

@@ -1,0 +1,46 @@
+//! The package and the header name the same functions and the same sizes.
+
+use yegetmur::capi::{STATE_WORDS, TAG_WORDS};
+use yegetmur::Refusal;
+
+const HEADER: &str = include_str!("../../../include/zuc.h");
+const DECLARATIONS: &str = include_str!("../src/ffi.rs");
+const WRAPPERS: &str = include_str!("../src/capi.rs");
+
+/// The number that the header defines a name to be.
+fn defined(name: &str) -> u32 {
+    let line = HEADER
+        .lines()
+        .find_map(|line| line.strip_prefix(&format!("#define {name} ")));
+    let number = line.and_then(|rest| rest.split_whitespace().next());
+    number.unwrap().trim_end_matches('u').parse().unwrap()
+}
+
+/// What follows `prefix` on the lines that begin with it, up to the parenthesis.
+fn functions<'a>(text: &'a str, prefix: &str) -> Vec<&'a str> {
+    let lines = text
+        .lines()
+        .filter_map(|line| line.trim_start().strip_prefix(prefix));
+    lines
+        .filter_map(|rest| Some(rest.split_once('(')?.0))
+        .collect()
+}
+
+#[test]
+fn functions_agree() {
+    let names = functions(HEADER, "uint32_t ");
+    assert_eq!(names.len(), 17);
+    assert_eq!(functions(DECLARATIONS, "pub fn "), names);
+    assert_eq!(functions(WRAPPERS, "pub fn "), names);
+}
+
+#[test]
+fn numbers_agree() {
+    assert_eq!(defined("ZUC_STATE_WORDS") as usize, STATE_WORDS);
+    assert_eq!(defined("ZUC_TAG_WORDS") as usize, TAG_WORDS);
+    assert_eq!(defined("ZUC_BAD_WIDTH"), Refusal::Width.number());
+    assert_eq!(defined("ZUC_BAD_KEY"), Refusal::Key.number());
+    assert_eq!(defined("ZUC_BAD_IV"), Refusal::Iv.number());
+    assert_eq!(defined("ZUC_BAD_STATE"), Refusal::State.number());
+    assert_eq!(defined("ZUC_BAD_BITS"), Refusal::BitLength.number());
+}

@@ -1,0 +1,198 @@
+//! What is refused and by which number, what a refusal leaves as it was, and
+//! that the calls without `try_` panic where the crate's panic.
+
+use std::panic::{catch_unwind, AssertUnwindSafe};
+
+use yegetmur::capi::{self, STATE_WORDS, TAG_WORDS};
+use yegetmur::eea3::{self, Eea3Keystream};
+use yegetmur::eia3::Eia3Mac;
+use yegetmur::zuc128::{self, Zuc128Keystream, Zuc128Mac};
+use yegetmur::zuc256::{Zuc256Keystream, Zuc256Mac};
+use yegetmur::Refusal;
+
+const BYTES: [u8; 40] = [0x5a; 40];
+
+/// The refusal of a key and an IV of so many bytes, where `right` are the right ones.
+fn by_length(key: usize, iv: usize, right: (usize, usize)) -> Option<Refusal> {
+    if key != right.0 {
+        Some(Refusal::Key)
+    } else if iv != right.1 {
+        Some(Refusal::Iv)
+    } else {
+        None
+    }
+}
+
+#[test]
+fn keys_and_ivs_of_any_length() {
+    for k in 0..=40 {
+        for v in 0..=40 {
+            let (key, iv) = (&BYTES[..k], &BYTES[..v]);
+            let (short, long) = (by_length(k, v, (16, 16)), by_length(k, v, (32, 23)));
+            assert_eq!(Zuc128Keystream::try_new(key, iv).err(), short);
+            assert_eq!(Zuc128Mac::try_new(key, iv).err(), short);
+            assert_eq!(Zuc128Mac::try_compute(key, iv, &[], 0).err(), short);
+            assert_eq!(Zuc256Keystream::try_new(key, iv).err(), long);
+            assert_eq!(Zuc256Mac::<u32>::try_new(key, iv).err(), long);
+            assert_eq!(Zuc256Mac::<u64>::try_new(key, iv).err(), long);
+            assert_eq!(Zuc256Mac::<u128>::try_compute(key, iv, &[], 0).err(), long);
+        }
+        let alone = by_length(k, 0, (16, 0));
+        assert_eq!(Eea3Keystream::try_new(1, 2, 0, &BYTES[..k]).err(), alone);
+        assert_eq!(Eia3Mac::try_new(1, 2, 0, &BYTES[..k]).err(), alone);
+        assert_eq!(
+            Eia3Mac::try_compute(1, 2, 0, &BYTES[..k], &[], 0).err(),
+            alone
+        );
+    }
+}
+
+#[test]
+fn the_lowest_number_is_given() {
+    let mut data = [1, 2, 3];
+    let short = &BYTES[..15];
+    let answers = [
+        zuc128::try_zuc128_xor_inplace(short, short, &mut data, 25),
+        zuc128::try_zuc128_xor_clean(&BYTES[..16], short, &mut data, 25),
+        eea3::try_eea3_xor_inplace(0, 0, 0, short, &mut data, 25),
+        eea3::try_eea3_xor_clean(0, 0, 0, &BYTES[..16], &mut data, 25),
+    ];
+    let numbers = answers.map(|answer| answer.map_err(Refusal::number));
+    assert_eq!(numbers, [Err(2), Err(3), Err(2), Err(5)]);
+    assert_eq!(data, [1, 2, 3]);
+
+    let mut tag = [7; 2];
+    assert_eq!(capi::zuc256_tag(5, short, short, &data, 25, &mut tag), 1);
+    assert_eq!(capi::zuc256_tag(4, short, short, &data, 25, &mut tag), 2);
+    assert_eq!(
+        capi::zuc256_tag(4, &BYTES[..32], short, &data, 25, &mut tag),
+        3
+    );
+    assert_eq!(tag, [0; 2]);
+}
+
+#[test]
+fn a_refused_mask_alters_nothing() {
+    let start = || Zuc128Keystream::new(&[1; 16], &[2; 16]);
+    let (mut zuc, mut data) = (start(), [9; 5]);
+    assert_eq!(zuc.try_xor_inplace(&mut data, 41), Err(Refusal::BitLength));
+    assert_eq!(
+        zuc.try_xor_clean(&mut data, usize::MAX),
+        Err(Refusal::BitLength)
+    );
+    assert_eq!(data, [9; 5]);
+    assert_eq!(zuc.generate(), start().generate());
+}
+
+#[test]
+fn a_refused_finish_can_go_on() {
+    let mut mac = Eia3Mac::new(1, 2, 1, &[3; 16]);
+    mac.update(b"abc");
+    assert_eq!(mac.try_finish(b"de", 17), Err(Refusal::BitLength));
+    let tag = mac.try_finish(b"de", 15);
+    assert_eq!(tag, Ok(Eia3Mac::compute(1, 2, 1, &[3; 16], b"abcde", 39)));
+    assert_eq!(mac.try_update(b""), Err(Refusal::State));
+    assert_eq!(mac.try_finish(b"", 0), Err(Refusal::State));
+}
+
+#[test]
+fn no_bytes_draw_one_word() {
+    let mut zuc = Zuc256Keystream::new(&[4; 32], &[5; 23]);
+    let mut ahead = zuc.clone();
+    assert_eq!(zuc.try_xor_inplace(&mut [], 0), Ok(1));
+    assert_eq!(zuc.try_xor_clean(&mut [], 0), Ok(1));
+    ahead.generate_into(&mut [0; 2]);
+    assert_eq!(zuc.generate(), ahead.generate());
+}
+
+/// Document P11: words 11223344 55667788 are not to be had from a start, so the
+/// modes are held to a keystream of their own.
+#[test]
+fn past_the_bit_length() {
+    let start = || Eea3Keystream::new(0, 0, 0, &[6; 16]);
+    let mut stream = [0; 8];
+    start().xor_inplace(&mut stream, 64);
+    for bits in 0..=40_usize {
+        let (mut as_the_crate, mut clean) = ([0; 5], [0; 5]);
+        start().xor_inplace(&mut as_the_crate, bits);
+        start().xor_clean(&mut clean, bits);
+        for (j, &masked) in stream[..5].iter().enumerate() {
+            let kept = bits.saturating_sub(8 * j).min(8);
+            let cut = masked & !u8::try_from(0xff_u16 >> kept).unwrap();
+            assert_eq!(clean[j], cut, "clean, {bits} bits, byte {j}");
+            let expected = if bits == 8 * j { masked } else { cut };
+            assert_eq!(as_the_crate[j], expected, "{bits} bits, byte {j}");
+        }
+    }
+}
+
+fn panics<T>(call: impl FnOnce() -> T) -> bool {
+    catch_unwind(AssertUnwindSafe(call)).is_err()
+}
+
+#[test]
+fn panics_where_the_crate_does() {
+    let (ck, long, iv) = ([0; 16], [0; 32], [0; 23]);
+    let data = &mut [0; 2];
+    assert!(panics(|| zuc128::zuc128_xor_inplace(&ck, &ck, data, 17)));
+    assert!(panics(|| zuc128::zuc128_xor_clean(&ck, &ck, data, 17)));
+    assert!(panics(|| eea3::eea3_xor_inplace(0, 0, 0, &ck, data, 17)));
+    assert!(panics(|| eea3::eea3_xor_clean(0, 0, 0, &ck, data, 17)));
+    assert!(panics(|| Zuc128Mac::compute(&ck, &ck, &[0; 2], 17)));
+    assert!(panics(|| Zuc128Mac::new(&ck, &ck).finish(&[0; 2], 17)));
+    assert!(panics(|| Eia3Mac::compute(0, 0, 0, &ck, &[0; 2], 17)));
+    assert!(panics(|| Eia3Mac::new(0, 0, 0, &ck).finish(&[], 1)));
+    assert!(panics(|| Zuc256Mac::<u32>::compute(
+        &long, &iv, &[0; 2], 17
+    )));
+    assert!(panics(
+        || Zuc256Mac::<u128>::new(&long, &iv).finish(&[0; 2], 17)
+    ));
+    assert!(!panics(
+        || Zuc256Mac::<u64>::new(&long, &iv).finish(&[0; 2], 16)
+    ));
+}
+
+#[test]
+fn malformed_states() {
+    let mut state = [0; STATE_WORDS];
+    let mut word = 7;
+    assert_eq!(capi::zuc_draw(&mut state, &mut word), 4);
+    assert_eq!(word, 0);
+    for cell in [0, 1 << 31, u32::MAX] {
+        assert_eq!(capi::zuc128_start(&mut state, &[0; 16], &[0; 16]), 0);
+        state[15] = cell;
+        let (before, mut out, mut count) = (state, [7; 3], 7);
+        assert_eq!(capi::zuc_words(&mut state, &mut out), 4);
+        assert_eq!(capi::zuc_mask_clean(&mut state, &mut [], 1, &mut count), 4);
+        assert_eq!((state, out, count), (before, [7; 3], 0));
+    }
+    let mut tag = [7; 2];
+    for value in [0, u64::MAX] {
+        let mut state = [value; TAG_WORDS];
+        assert_eq!(capi::zuc128_tag_update(&mut state, b"abc"), 4);
+        assert_eq!(capi::zuc256_tag_update(&mut state, b""), 4);
+        assert_eq!(capi::zuc128_tag_finish(&mut state, b"", 1, &mut tag), 4);
+        assert_eq!(capi::zuc256_tag_finish(&mut state, b"", 0, &mut tag), 4);
+        assert_eq!((state, tag), ([value; TAG_WORDS], [0; 2]));
+    }
+}
+
+#[test]
+fn zuc128_takes_no_wide_zuc256_state() {
+    for (width, answer) in [(4, 0), (8, 4), (16, 4)] {
+        let mut state = [0; TAG_WORDS];
+        assert_eq!(
+            capi::zuc256_tag_start(&mut state, width, &[0; 32], &[0; 23]),
+            0
+        );
+        assert_eq!(capi::zuc128_tag_update(&mut state, b""), answer);
+    }
+}
+
+#[test]
+fn debug_hides_the_state() {
+    let zuc = Zuc128Keystream::new(&[0; 16], &[0; 16]);
+    assert_eq!(format!("{zuc:?}"), "Zuc128Keystream { .. }");
+    assert_eq!(Refusal::Key.to_string(), "the key has the wrong length");
+}

@@ -1,0 +1,67 @@
+//! Feeds the crate and the port the same inputs:
+//! `driver [--long MINUTES] [--seed SEED] [--stop]`.
+//! Exits with 1 if anything differs, with 2 if it is called wrongly.
+
+use std::env::args;
+use std::process::exit;
+use std::time::{Duration, SystemTime, UNIX_EPOCH};
+
+use compare::plan::{self, SECTIONS};
+use compare::report::Report;
+use compare::rng::Rng;
+
+struct Options {
+    /// How long random inputs go on after the quick part.
+    long: Duration,
+    seed: u64,
+    /// Whether to stop after the first section with a difference.
+    stop: bool,
+}
+
+fn main() {
+    let options = options();
+    println!("zuc 0.4.1 and {}; seed {}", compare::library(), options.seed);
+    let mut rng = Rng::new(options.seed);
+    let mut report = Report::new();
+    for (name, inputs) in SECTIONS {
+        report.section(name);
+        inputs(&mut rng, &mut |input| report.try_input(input));
+        if options.stop && report.differences() > 0 {
+            break;
+        }
+    }
+    if !options.long.is_zero() {
+        report.section("random, to 1 MiB, for as long as was asked");
+        let end = report.elapsed() + options.long;
+        while report.elapsed() < end {
+            let log = rng.pick(&[6, 11, 11, 16, 20]);
+            report.try_input(plan::random(&mut rng, log));
+        }
+    }
+    exit(i32::from(!report.end(options.seed)));
+}
+
+fn options() -> Options {
+    let now = SystemTime::now().duration_since(UNIX_EPOCH);
+    let seed = now.expect("a clock past 1970").as_nanos() as u64;
+    let mut options = Options { long: Duration::ZERO, seed, stop: false };
+    let mut words = args().skip(1);
+    while let Some(word) = words.next() {
+        match word.as_str() {
+            "--long" => options.long = Duration::from_secs(60 * number(words.next())),
+            "--seed" => options.seed = number(words.next()),
+            "--stop" => options.stop = true,
+            _ => usage(),
+        }
+    }
+    options
+}
+
+fn number(word: Option<String>) -> u64 {
+    word.and_then(|word| word.parse().ok()).unwrap_or_else(|| usage())
+}
+
+fn usage() -> ! {
+    eprintln!("usage: driver [--long MINUTES] [--seed SEED] [--stop]");
+    exit(2)
+}

@@ -1,0 +1,325 @@
+//! One input on the crate and on the port: the first thing that differs, if any does.
+
+use std::fmt::LowerHex;
+
+use yegetmur::capi::{self, State, TagState, STATE_WORDS, TAG_WORDS};
+
+use crate::input::{Call, Input, Mode, Start, Tagger};
+use crate::quiet::caught;
+use crate::rules::{bits_refusal, first, start_refusal, well_formed, BAD_STATE};
+use crate::users::{with_crate, with_port};
+use crate::{layout, model, original, port};
+
+/// What differs.
+pub type Verdict = Result<(), String>;
+
+/// What stands in lent memory before a call that is to overwrite it.
+const DIRT: u8 = 0xa5;
+
+/// Up to so many bytes a tag is also held to the model, which is slow.
+const MODEL_BYTES: usize = 64;
+
+/// Bytes around a lent buffer that no call may touch.
+const MARGIN: usize = 16;
+
+pub fn check(input: &Input) -> Verdict {
+    match input.call {
+        Call::Words(start) => words(start, input),
+        Call::Mask(mode, start) => mask(mode, start, input),
+        Call::Tag(tagger) => tag(tagger, input),
+        Call::LentState => lent_state(input),
+        Call::LentTag => lent_tag(input),
+    }
+}
+
+fn same<T: PartialEq + LowerHex>(what: &str, expected: T, port: T) -> Verdict {
+    if expected == port {
+        return Ok(());
+    }
+    Err(format!("{what}: expected {expected:#x}, the port has {port:#x}"))
+}
+
+fn same_list<T: PartialEq + LowerHex + Copy>(what: &str, expected: &[T], port: &[T]) -> Verdict {
+    assert_eq!(expected.len(), port.len(), "{what}");
+    match (0..port.len()).find(|&i| expected[i] != port[i]) {
+        Some(i) => same(&format!("{what}, place {i}"), expected[i], port[i]),
+        None => Ok(()),
+    }
+}
+
+/// Whether the port refuses where the crate panics.
+fn same_refusal(what: &str, expected: bool, refusal: u32) -> Verdict {
+    match (expected, refusal) {
+        (true, 0) => Err(format!("{what}: the crate panics, the port accepts")),
+        (false, 1..) => Err(format!("{what}: the crate accepts, the port refuses by {refusal}")),
+        _ => Ok(()),
+    }
+}
+
+/// Answers of calls that may panic: nothing stands for a panic.
+fn same_answer(what: &str, expected: Option<u128>, port: Option<u128>) -> Verdict {
+    match (expected, port) {
+        (Some(one), Some(other)) => same(what, one, other),
+        (None, None) => Ok(()),
+        (Some(one), None) => Err(format!("{what}: expected {one:#x}, the port panics")),
+        (None, Some(other)) => Err(format!("{what}: expected a panic, the port has {other:#x}")),
+    }
+}
+
+fn dirty_state() -> State {
+    [u32::from_ne_bytes([DIRT; 4]); STATE_WORDS]
+}
+
+fn dirty_tag_state() -> TagState {
+    [u64::from_ne_bytes([DIRT; 8]); TAG_WORDS]
+}
+
+/// The port's state after a start, or nothing if it is rightly refused.
+fn started(start: Start, input: &Input) -> Result<Option<State>, String> {
+    let refusal = start_refusal(input);
+    let mut state = dirty_state();
+    same("refusal of the start", refusal, port::start(start, input, &mut state))?;
+    if refusal != 0 {
+        same_list("state after a refused start", &[0; STATE_WORDS], &state)?;
+        return Ok(None);
+    }
+    same_list("state after the start", &original::start_state(start, input), &state)?;
+    Ok(Some(state))
+}
+
+fn words(start: Start, input: &Input) -> Verdict {
+    let Some(state) = started(start, input)? else {
+        return Ok(());
+    };
+    let expected = with_crate::words(start, input);
+    same_list("words of the package", &expected, &with_port::words(start, input))?;
+    let mut after = original::start_state(start, input);
+    same_list("words of the crate's inside", &expected, &original::words(&mut after, input.words))?;
+    draws(&state, &expected, &after)
+}
+
+/// Words from a well-formed state, one at a time and in one call.
+fn draws(state: &State, expected: &[u32], after: &State) -> Verdict {
+    let mut one = *state;
+    let mut drawn = vec![!0; expected.len()];
+    for word in &mut drawn {
+        same("refusal of zuc_draw", 0, capi::zuc_draw(&mut one, word))?;
+    }
+    same_list("words by zuc_draw", expected, &drawn)?;
+    same_list("state after zuc_draw", after, &one)?;
+
+    let mut all = *state;
+    let mut out = vec![!0; expected.len() + 2];
+    let lent = &mut out[1..=expected.len()];
+    same("refusal of zuc_words", 0, capi::zuc_words(&mut all, lent))?;
+    same_list("words by zuc_words", expected, lent)?;
+    same_list("state after zuc_words", after, &all)?;
+    same_list("words around those lent", &[!0; 2], &[out[0], out[out.len() - 1]])
+}
+
+fn mask(mode: Mode, start: Start, input: &Input) -> Verdict {
+    let Some(state) = started(start, input)? else {
+        return Ok(());
+    };
+    masked_from(mode, &state, input)?;
+    if mode == Mode::Clean {
+        return Ok(());
+    }
+    let (mut expected, mut port) = (input.data.clone(), input.data.clone());
+    let answer = caught(|| with_crate::mask(start, input, &mut expected));
+    let other = caught(|| with_port::mask(start, input, &mut port));
+    same_answer("mask by the package", answer.map(u128::from), other.map(u128::from))?;
+    same_list("buffer by the package", &expected, &port)
+}
+
+/// A mask from a well-formed state: number, count, state, and every byte in and around
+/// the buffer.
+fn masked_from(mode: Mode, state: &State, input: &Input) -> Verdict {
+    let Input { data, bits, .. } = input;
+    let mut expected_state = *state;
+    let mut expected = data.clone();
+    let drawn = original::mask(&mut expected_state, &mut expected, *bits);
+    if mode == Mode::Clean && drawn.is_some() {
+        let words = original::words(&mut state.clone(), data.len().div_ceil(4));
+        expected = model::clean(&words, data, *bits);
+    }
+
+    let mut port_state = *state;
+    let mut count = usize::MAX;
+    // the buffer begins at any place within a word
+    let (front, end) = (MARGIN + bits % 8, MARGIN + bits % 8 + data.len());
+    let mut memory = vec![DIRT; end + MARGIN];
+    let buffer = &mut memory[front..end];
+    buffer.copy_from_slice(data);
+    let refusal = port::mask(mode, &mut port_state, buffer, *bits, &mut count);
+
+    same("refusal of the mask", bits_refusal(*bits, data.len()), refusal)?;
+    same_refusal("mask", drawn.is_none(), refusal)?;
+    same("words that the mask drew", drawn.unwrap_or(0), count)?;
+    same_list("buffer", &expected, buffer)?;
+    same_list("state after the mask", &expected_state, &port_state)?;
+    same_list("bytes before the buffer", &vec![DIRT; front], &memory[..front])?;
+    same_list("bytes after the buffer", &[DIRT; MARGIN], &memory[end..])
+}
+
+fn tag(tagger: Tagger, input: &Input) -> Verdict {
+    let mut state = dirty_tag_state();
+    let refusal = start_refusal(input);
+    same("refusal of the tag's start", refusal, port::tag_start(tagger, input, &mut state))?;
+    if refusal != 0 {
+        same_list("tag state after a refused start", &[0; TAG_WORDS], &state)?;
+        return tag_at_once(tagger, input, None);
+    }
+
+    let expected = caught(|| with_crate::tag_in_steps(tagger, input));
+    let package = caught(|| with_port::tag_in_steps(tagger, input));
+    same_answer("tag in steps by the package", expected, package)?;
+    tag_in_steps(tagger, input, state, expected)?;
+    if input.cuts.is_empty() {
+        let at_once = caught(|| with_crate::tag_at_once(tagger, input));
+        let package = caught(|| with_port::tag_at_once(tagger, input));
+        same_answer("the crate's tag at once and in steps", expected, at_once)?;
+        same_answer("tag at once by the package", expected, package)?;
+        tag_at_once(tagger, input, expected)?;
+    }
+    Ok(())
+}
+
+/// The one-shot. Nothing is expected where it is to be refused.
+fn tag_at_once(tagger: Tagger, input: &Input, expected: Option<u128>) -> Verdict {
+    let refusal = first(start_refusal(input), bits_refusal(input.bits, input.data.len()));
+    let mut tag = [!0; 2];
+    same("refusal at once", refusal, port::tag_at_once(tagger, input, &mut tag))?;
+    if start_refusal(input) == 0 {
+        same_refusal("tag at once", expected.is_none(), refusal)?;
+    }
+    same_list("tag at once", &expected.map_or([0; 2], |tag| port::split(tagger, tag)), &tag)
+}
+
+/// Updates and finish from the state after the start.
+fn tag_in_steps(
+    tagger: Tagger,
+    input: &Input,
+    mut state: TagState,
+    expected: Option<u128>,
+) -> Verdict {
+    let mut model = (input.data.len() <= MODEL_BYTES)
+        .then(|| model::Tag::start(tagger, original::tag_start_state(tagger, input)));
+    same_tag_state("tag state after the start", &model, &state)?;
+    for piece in input.pieces() {
+        same("refusal of an update", 0, port::tag_update(tagger, &mut state, piece))?;
+        if let Some(model) = &mut model {
+            model.update(piece);
+        }
+        same_tag_state("tag state after an update", &model, &state)?;
+    }
+
+    let (before, tail) = (state, input.tail());
+    let mut tag = [!0; 2];
+    let refusal = port::tag_finish(tagger, &mut state, tail, input.bits, &mut tag);
+    same("refusal of the finish", bits_refusal(input.bits, tail.len()), refusal)?;
+    same_refusal("finish", expected.is_none(), refusal)?;
+    let Some(expected) = expected else {
+        same_list("tag of a refused finish", &[0; 2], &tag)?;
+        return same_list("tag state after a refused finish", &before, &state);
+    };
+    same_list("tag in steps", &port::split(tagger, expected), &tag)?;
+    same_list("tag state after the finish", &[0; TAG_WORDS], &state)?;
+    match model {
+        Some(model) => {
+            same("the crate's tag and the model's", model.finish(tail, input.bits), expected)
+        }
+        None => Ok(()),
+    }
+}
+
+fn same_tag_state(what: &str, model: &Option<model::Tag>, state: &TagState) -> Verdict {
+    match model {
+        Some(model) => same_list(what, &layout::pack(&model.parts()), state),
+        None => Ok(()),
+    }
+}
+
+/// Every call that a generator's state can be lent to.
+fn lent_state(input: &Input) -> Verdict {
+    let state: State = std::array::from_fn(|i| input.array[i] as u32);
+    if well_formed(&state[..16]) {
+        let mut after = state;
+        let expected = original::words(&mut after, input.words);
+        draws(&state, &expected, &after)?;
+        masked_from(Mode::Crate, &state, input)?;
+        return masked_from(Mode::Clean, &state, input);
+    }
+
+    let mut lent = state;
+    let (mut word, mut out) = (!0, vec![!0; input.words]);
+    same("refusal of a draw", BAD_STATE, capi::zuc_draw(&mut lent, &mut word))?;
+    same("refused word", 0, word)?;
+    same("refusal of zuc_words", BAD_STATE, capi::zuc_words(&mut lent, &mut out))?;
+    same_list("words after a refusal", &vec![!0; input.words], &out)?;
+    for mode in [Mode::Crate, Mode::Clean] {
+        let (mut count, mut buffer) = (usize::MAX, input.data.clone());
+        let refusal = port::mask(mode, &mut lent, &mut buffer, input.bits, &mut count);
+        same("refusal of a mask", BAD_STATE, refusal)?;
+        same("count of a refused mask", 0, count)?;
+        same_list("buffer of a refused mask", &input.data, &buffer)?;
+    }
+    same_list("state after refusals", &state, &lent)
+}
+
+/// Every call that a tag's state can be lent to.
+fn lent_tag(input: &Input) -> Verdict {
+    let array: TagState = std::array::from_fn(|i| input.array[i]);
+    let parts = layout::unpack(&array);
+    for tagger in [Tagger::Zuc128, Tagger::Zuc256 { width: 4 }] {
+        let extra_word = tagger == Tagger::Zuc128;
+        let model = parts.as_ref().and_then(|parts| model::Tag::from_parts(extra_word, parts));
+        lent_update(tagger, &array, model.clone(), input)?;
+        lent_finish(tagger, &array, model, input)?;
+    }
+    Ok(())
+}
+
+fn lent_update(
+    tagger: Tagger,
+    array: &TagState,
+    model: Option<model::Tag>,
+    input: &Input,
+) -> Verdict {
+    let mut lent = *array;
+    let refusal = port::tag_update(tagger, &mut lent, &input.data);
+    let Some(mut model) = model else {
+        same("refusal of an update", BAD_STATE, refusal)?;
+        return same_list("tag state after a refused update", array, &lent);
+    };
+    same("refusal of an update", 0, refusal)?;
+    model.update(&input.data);
+    same_list("tag state after an update", &layout::pack(&model.parts()), &lent)
+}
+
+fn lent_finish(
+    tagger: Tagger,
+    array: &TagState,
+    model: Option<model::Tag>,
+    input: &Input,
+) -> Verdict {
+    let Input { data, bits, .. } = input;
+    let malformed = if model.is_none() { BAD_STATE } else { 0 };
+    let expected = first(malformed, bits_refusal(*bits, data.len()));
+    let (mut lent, mut tag) = (*array, [!0; 2]);
+    let refusal = port::tag_finish(tagger, &mut lent, data, *bits, &mut tag);
+    same("refusal of a finish", expected, refusal)?;
+    match model {
+        Some(model) if refusal == 0 => {
+            let wide = model.parts().width == 16;
+            let number = model.finish(data, *bits);
+            let halves = [(number >> 64) as u64, number as u64];
+            same_list("tag", &if wide { halves } else { [halves[1], 0] }, &tag)?;
+            same_list("tag state after a finish", &[0; TAG_WORDS], &lent)
+        }
+        _ => {
+            same_list("tag of a refused finish", &[0; 2], &tag)?;
+            same_list("tag state after a refused finish", array, &lent)
+        }
+    }
+}

@@ -1,0 +1,143 @@
+//! One input: a call, and all that it is given.
+
+use std::fmt;
+
+use crate::hex::hex;
+
+/// The starts of a generator.
+#[derive(Clone, Copy, PartialEq, Eq, Debug)]
+pub enum Start {
+    Zuc128,
+    Zuc256,
+    Eea3,
+}
+
+/// The kinds of tag.
+#[derive(Clone, Copy, PartialEq, Eq, Debug)]
+pub enum Tagger {
+    Zuc128,
+    Eia3,
+    Zuc256 { width: usize },
+}
+
+/// What masking leaves past the bit length.
+#[derive(Clone, Copy, PartialEq, Eq, Debug)]
+pub enum Mode {
+    Crate,
+    Clean,
+}
+
+#[derive(Clone, Copy, PartialEq, Eq, Debug)]
+pub enum Call {
+    /// A start and then `words` words.
+    Words(Start),
+    /// A start and then a mask of `data` by `bits`.
+    Mask(Mode, Start),
+    /// A tag of `data`: its pieces by `cuts` in updates, the rest by `bits` at the end.
+    Tag(Tagger),
+    /// `words` words, and both masks of `data` by `bits`, from the state `array`.
+    LentState,
+    /// An update by `data`, and a finish by `data` and `bits`, on the tag state `array`.
+    LentTag,
+}
+
+#[derive(Clone, PartialEq, Debug)]
+pub struct Input {
+    pub call: Call,
+    pub key: Vec<u8>,
+    pub iv: Vec<u8>,
+    pub count: u32,
+    pub bearer: u8,
+    pub direction: u8,
+    pub data: Vec<u8>,
+    pub cuts: Vec<usize>,
+    pub bits: usize,
+    pub words: usize,
+    pub array: Vec<u64>,
+}
+
+impl Input {
+    /// A call with a key and an IV of the right length, all zeros, and nothing else.
+    pub fn of(call: Call) -> Self {
+        let (key, iv) = lengths(call);
+        Self {
+            call,
+            key: vec![0; key],
+            iv: vec![0; iv],
+            count: 0,
+            bearer: 0,
+            direction: 0,
+            data: Vec::new(),
+            cuts: Vec::new(),
+            bits: 0,
+            words: 0,
+            array: Vec::new(),
+        }
+    }
+
+    /// Whether the IV is made of COUNT, BEARER and DIRECTION.
+    pub fn takes_fields(&self) -> bool {
+        matches!(
+            self.call,
+            Call::Words(Start::Eea3) | Call::Mask(_, Start::Eea3) | Call::Tag(Tagger::Eia3)
+        )
+    }
+
+    /// The pieces of `data` that go into updates.
+    pub fn pieces(&self) -> impl Iterator<Item = &[u8]> {
+        self.cuts.iter().scan(&self.data[..], |rest, &length| {
+            let (piece, after) = rest.split_at(length);
+            *rest = after;
+            Some(piece)
+        })
+    }
+
+    /// What is left of `data` for the closing call.
+    pub fn tail(&self) -> &[u8] {
+        &self.data[self.cuts.iter().sum()..]
+    }
+}
+
+/// The right lengths of a call's key and IV; 0 where it has none.
+pub fn lengths(call: Call) -> (usize, usize) {
+    match call {
+        Call::Words(start) | Call::Mask(_, start) => match start {
+            Start::Zuc128 => (16, 16),
+            Start::Zuc256 => (32, 23),
+            Start::Eea3 => (16, 0),
+        },
+        Call::Tag(tagger) => match tagger {
+            Tagger::Zuc128 => (16, 16),
+            Tagger::Zuc256 { .. } => (32, 23),
+            Tagger::Eia3 => (16, 0),
+        },
+        Call::LentState | Call::LentTag => (0, 0),
+    }
+}
+
+/// All that matters of the input, on one line.
+impl fmt::Display for Input {
+    fn fmt(&self, f: &mut fmt::Formatter<'_>) -> fmt::Result {
+        write!(f, "{:?}", self.call)?;
+        match self.call {
+            Call::LentState | Call::LentTag => write!(f, " array={:x?}", self.array)?,
+            _ if self.takes_fields() => {
+                let Self { count, bearer, direction, .. } = self;
+                write!(f, " count={count:#x} bearer={bearer} direction={direction}")?;
+                write!(f, " key={}", hex(&self.key))?;
+            }
+            _ => write!(f, " key={} iv={}", hex(&self.key), hex(&self.iv))?,
+        }
+        if !matches!(self.call, Call::Words(_)) {
+            write!(f, " data={} ({} bytes)", hex(&self.data), self.data.len())?;
+            write!(f, " bits={}", self.bits)?;
+        }
+        if matches!(self.call, Call::Tag(_)) {
+            write!(f, " cuts={:?}", self.cuts)?;
+        }
+        if matches!(self.call, Call::Words(_) | Call::LentState) {
+            write!(f, " words={}", self.words)?;
+        }
+        Ok(())
+    }
+}

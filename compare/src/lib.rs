@@ -1,0 +1,32 @@
+//! The crate zuc 0.4.1 and this port, fed the same inputs.
+//!
+//! An [`input::Input`] is one call with all that it is given. [`check::check`] makes it
+//! on the crate, on the port through its Rust package, and on the port through its C
+//! interface, and says the first thing that differs. [`plan`] says which inputs are
+//! tried; [`shrink`] makes a failing one small.
+
+pub mod check;
+pub mod clock;
+pub mod hex;
+pub mod input;
+pub mod layout;
+pub mod model;
+pub mod original;
+pub mod plan;
+pub mod plot;
+pub mod port;
+pub mod quiet;
+pub mod record;
+pub mod report;
+pub mod rng;
+pub mod rules;
+pub mod shrink;
+pub mod users;
+
+/// Which library is linked.
+pub fn library() -> &'static str {
+    match option_env!("YEGETMUR_LIB_DIR") {
+        None | Some("") => "libcapi.a by rt staticlib",
+        Some(_) => "libcapi.a by YEGETMUR_LIB_DIR",
+    }
+}

@@ -1,0 +1,221 @@
+/*
+ * Functions of zuc.h with one fault each, made of the right ones, which the
+ * linker knows as right_NAME. FAULT picks one; compare/wrong/try tries them all
+ * and prints the line that says what a fault is.
+ */
+#include "zuc.h"
+
+#include <string.h>
+
+#define RIGHT(name) extern __typeof__(name) right_##name
+RIGHT(zuc128_start);
+RIGHT(zuc256_start);
+RIGHT(zuc_draw);
+RIGHT(zuc_words);
+RIGHT(zuc_mask_crate);
+RIGHT(zuc_mask_clean);
+RIGHT(zuc256_tag_start);
+RIGHT(zuc128_tag_update);
+RIGHT(zuc128_tag_finish);
+RIGHT(zuc256_tag_finish);
+RIGHT(zuc128_tag);
+RIGHT(zuc256_tag);
+
+#if FAULT == 1 || FAULT == 3 || FAULT == 17
+uint32_t zuc_mask_crate(uint32_t state[ZUC_STATE_WORDS],
+                        uint8_t *buf, size_t len, size_t bits, size_t *count)
+{
+    uint32_t before[ZUC_STATE_WORDS], word;
+    size_t count_before = *count;
+    memcpy(before, state, sizeof before);
+    uint32_t refusal = right_zuc_mask_crate(state, buf, len, bits, count);
+
+    /* fault 1: crate mode clears byte L/8 when L is a multiple of 8 */
+    if (FAULT == 1 && refusal == 0 && bits % 8 == 0 && bits / 8 < len)
+        buf[bits / 8] = 0;
+
+    /* fault 3: a mask of 4n bytes draws n words */
+    if (FAULT == 3 && refusal == 0 && len % 4 == 0) {
+        memcpy(state, before, sizeof before);
+        for (*count = 0; *count < len / 4; ++*count)
+            zuc_draw(state, &word);
+    }
+
+    /* fault 17: a refused mask says nothing of the count */
+    if (FAULT == 17 && refusal != 0)
+        *count = count_before;
+    return refusal;
+}
+#endif
+
+#if FAULT == 2 || FAULT == 4
+uint32_t zuc_mask_clean(uint32_t state[ZUC_STATE_WORDS],
+                        uint8_t *buf, size_t len, size_t bits, size_t *count)
+{
+    /* fault 2: clean mode leaves byte L/8 when L is a multiple of 8 */
+    if (FAULT == 2)
+        return zuc_mask_crate(state, buf, len, bits, count);
+
+    /* fault 4: the right buffer and state, a made-up count */
+    uint32_t refusal = right_zuc_mask_clean(state, buf, len, bits, count);
+    if (refusal == 0)
+        *count = (len + 3) / 4;
+    return refusal;
+}
+#endif
+
+#if FAULT == 5
+/* fault 5: EIA3 takes a fresh last word when the length is a multiple of 32 */
+uint32_t zuc128_tag(const uint8_t *key, size_t key_len, const uint8_t *iv, size_t iv_len,
+                    const uint8_t *msg, size_t len, size_t bits, uint64_t tag[2])
+{
+    uint32_t state[ZUC_STATE_WORDS], word = 0, last = 0;
+    uint32_t refusal = right_zuc128_tag(key, key_len, iv, iv_len, msg, len, bits, tag);
+    if (refusal == 0 && bits % 32 == 0) {
+        zuc128_start(state, key, key_len, iv, iv_len);
+        for (size_t i = 0; i < bits / 32 + 3; i++) {
+            last = word;
+            zuc_draw(state, &word);
+        }
+        tag[0] ^= last ^ word;
+    }
+    return refusal;
+}
+#endif
+
+#if FAULT == 6
+/* fault 6: the bit length is checked after an update has altered the state */
+uint32_t zuc128_tag_finish(uint64_t state[ZUC_TAG_WORDS], const uint8_t *tail, size_t len,
+                           size_t bits, uint64_t tag[2])
+{
+    uint32_t refusal = right_zuc128_tag_finish(state, tail, len, bits, tag);
+    if (refusal == ZUC_BAD_BITS)
+        zuc128_tag_update(state, tail, len);
+    return refusal;
+}
+#endif
+
+#if FAULT == 7
+/* fault 7: a refused start leaves the array as it came */
+uint32_t zuc256_start(uint32_t state[ZUC_STATE_WORDS], const uint8_t *key, size_t key_len,
+                      const uint8_t *iv, size_t iv_len)
+{
+    uint32_t begun[ZUC_STATE_WORDS];
+    uint32_t refusal = right_zuc256_start(begun, key, key_len, iv, iv_len);
+    if (refusal == 0)
+        memcpy(state, begun, sizeof begun);
+    return refusal;
+}
+#endif
+
+#if FAULT == 8 || FAULT == 18
+static void iv_of(uint8_t iv[16], uint32_t count, uint8_t byte4)
+{
+    for (int i = 0; i < 8; i++)
+        iv[i] = i < 4 ? (uint8_t)(count >> (24 - 8 * i)) : 0;
+    iv[4] = byte4;
+    memcpy(iv + 8, iv, 8);
+}
+#endif
+
+#if FAULT == 8
+/* fault 8: EEA3 keeps two bits of the direction */
+uint32_t eea3_start(uint32_t state[ZUC_STATE_WORDS], uint32_t count, uint8_t bearer,
+                    uint8_t direction, const uint8_t *key, size_t key_len)
+{
+    uint8_t iv[16];
+    iv_of(iv, count, (uint8_t)(bearer << 3 | (direction & 3) << 2));
+    return zuc128_start(state, key, key_len, iv, 16);
+}
+#endif
+
+#if FAULT == 9
+/* fault 9: the IV is looked at before the key */
+uint32_t zuc128_start(uint32_t state[ZUC_STATE_WORDS], const uint8_t *key, size_t key_len,
+                      const uint8_t *iv, size_t iv_len)
+{
+    uint32_t refusal = right_zuc128_start(state, key, key_len, iv, iv_len);
+    return iv_len != 16 ? ZUC_BAD_IV : refusal;
+}
+#endif
+
+#if FAULT == 10
+/* fault 10: a width is cut to 32 bits */
+uint32_t zuc256_tag_start(uint64_t state[ZUC_TAG_WORDS], size_t width, const uint8_t *key,
+                          size_t key_len, const uint8_t *iv, size_t iv_len)
+{
+    return right_zuc256_tag_start(state, (uint32_t)width, key, key_len, iv, iv_len);
+}
+#endif
+
+#if FAULT == 11 || FAULT == 14
+uint32_t zuc256_tag_finish(uint64_t state[ZUC_TAG_WORDS], const uint8_t *tail, size_t len,
+                           size_t bits, uint64_t tag[2])
+{
+    /* fault 11: a bit length is rounded up to bytes modulo 2^64 */
+    if (FAULT == 11)
+        return right_zuc256_tag_finish(state, tail, len, bits + 7 < 7 ? 0 : bits, tag);
+
+    /* fault 14: a tag can be closed twice */
+    uint64_t copy[ZUC_TAG_WORDS];
+    memcpy(copy, state, sizeof copy);
+    return right_zuc256_tag_finish(copy, tail, len, bits, tag);
+}
+#endif
+
+#if FAULT == 12
+/* fault 12: one word too many is written, if seven are asked for */
+uint32_t zuc_words(uint32_t state[ZUC_STATE_WORDS], uint32_t *out, size_t n)
+{
+    uint32_t refusal = right_zuc_words(state, out, n);
+    if (refusal == 0 && n == 7)
+        out[7] = 0;
+    return refusal;
+}
+#endif
+
+#if FAULT == 13
+/* fault 13: a cell of 0 in the place of 2^31 - 1 */
+uint32_t zuc_draw(uint32_t state[ZUC_STATE_WORDS], uint32_t *word)
+{
+    uint32_t refusal = right_zuc_draw(state, word);
+    if (refusal == 0 && state[15] == 0x7fffffff)
+        state[15] = 0;
+    return refusal;
+}
+#endif
+
+#if FAULT == 15
+/* fault 15: an empty update looks at nothing */
+uint32_t zuc128_tag_update(uint64_t state[ZUC_TAG_WORDS], const uint8_t *msg, size_t len)
+{
+    return len == 0 ? 0 : right_zuc128_tag_update(state, msg, len);
+}
+#endif
+
+#if FAULT == 16
+/* fault 16: the halves of a tag of 128 bits change places */
+uint32_t zuc256_tag(size_t width, const uint8_t *key, size_t key_len, const uint8_t *iv,
+                    size_t iv_len, const uint8_t *msg, size_t len, size_t bits,
+                    uint64_t tag[2])
+{
+    uint64_t halves[2];
+    uint32_t refusal =
+        right_zuc256_tag(width, key, key_len, iv, iv_len, msg, len, bits, halves);
+    tag[0] = halves[width == 16];
+    tag[1] = halves[width != 16];
+    return refusal;
+}
+#endif
+
+#if FAULT == 18
+/* fault 18: EIA3 forgets the direction in byte 14 of the IV */
+uint32_t eia3_tag_start(uint64_t state[ZUC_TAG_WORDS], uint32_t count, uint8_t bearer,
+                        uint8_t direction, const uint8_t *key, size_t key_len)
+{
+    uint8_t iv[16];
+    iv_of(iv, count, (uint8_t)(bearer << 3));
+    iv[8] ^= (uint8_t)(direction << 7);
+    return zuc128_tag_start(state, key, key_len, iv, 16);
+}
+#endif

@@ -1,0 +1,4 @@
+pub mod Clear
+pub mod Words
+pub mod Outcomes
+pub mod Tight

@@ -1,0 +1,153 @@
+// Masking in place by bit length (the crate's internal/stream_cipher.rs), in the crate's mode and in clean mode.
+ghost use mathlib.Core.Path.{_≡_};
+ghost use Prim.Native.Nat.{_≤_, _*_, _+_, _/_};
+ghost use lib.ListN.{length};
+ghost use Rattle.mask.specs.Clearing.{zeroed, cleared};
+ghost use Rattle.mask.specs.Outcome.{told, outcomeTo, crateOutcome, cleanOutcome};
+ghost use Rattle.standard.specs.Boxes.{S₀-table, S₁-table};
+ghost use Rattle.standard.specs.Confidentiality.{eachFrom, keepHigh, masked, wordsToMask};
+ghost use Rattle.standard.specs.Generator.{Cells, after, wordAt};
+ghost use Rattle.zuc.specs.Reading.{stateOf};
+use zuc::Zuc;
+use zuc::boxes::S0;
+use zuc::boxes::S1;
+
+// What a call answers: the words drawn, or why it was refused.
+pub enum MaskAnswer {
+    Done(usize),
+    Malformed,
+    TooLong,
+}
+
+// The answer, and the state handed back.
+pub struct Masked {
+    pub answer: MaskAnswer,
+    pub state: Zuc,
+}
+
+// Four bytes, xored with a word as one number: one load and one store.
+fn xor_word(word: u32, part: &mut [u8])
+    requires { ⌜ length (now part) ≡ 4 ⌝ }
+    ensures { λ _. ⌜ now (part .exit) ≡ eachFrom (masked (λ n. word)) 0 (now (part .entry)) ⌝ }
+{
+    let x = words::word_of(part[0], part[1], part[2], part[3]) ^ word;
+    part[0] = words::byte_of(x, 0);
+    part[1] = words::byte_of(x, 1);
+    part[2] = words::byte_of(x, 2);
+    part[3] = words::byte_of(x, 3);
+}
+
+// At most four bytes, xored with the first bytes of a word.
+fn xor_rest(word: u32, part: &mut [u8])
+    requires { ⌜ length (now part) ≤ 4 ⌝ }
+    ensures { λ _. ⌜ now (part .exit) ≡ eachFrom (masked (λ n. word)) 0 (now (part .entry)) ⌝ }
+{
+    let mut j: usize = 0;
+    while j < part.len() {
+        let k = words::byte_of(word, j);
+        part[j] = part[j] ^ k;
+        j += 1;
+    }
+}
+
+// Zeroes from a place on.
+fn zero_from(buf: &mut [u8], from: usize)
+    requires { ⌜ from ≤ length (now buf) ⌝ }
+    ensures { λ _. ⌜ now (buf .exit) ≡ eachFrom (zeroed from) 0 (now (buf .entry)) ⌝ }
+{
+    let mut i = from;
+    while i < buf.len() {
+        buf[i] = 0;
+        i += 1;
+    }
+}
+
+// The k high bits of a byte.
+fn keep_high(byte: u8, k: usize) -> u8
+    requires { ⌜ k ≤ 8 ⌝ }
+    ensures { λ r. ⌜ r ≡ keepHigh k byte ⌝ }
+{
+    let low = 8 - k;
+    (((byte as u32) >> low) << low) as u8
+}
+
+// Keeps the bytes before byte q and its k high bits, and zeroes what follows.
+fn keep_bits(buf: &mut [u8], q: usize, k: usize)
+    requires { ⌜ k ≤ 8 ⌝ }
+    ensures { λ _. ⌜ now (buf .exit) ≡ eachFrom (cleared (q * 8 + k)) 0 (now (buf .entry)) ⌝ }
+{
+    if q < buf.len() {
+        let high = keep_high(buf[q], k);
+        zero_from(buf, q + 1);
+        buf[q] = high;
+    }
+}
+
+// Masks every byte: a word for each four bytes, then one for the bytes left over, drawn even if there are none.
+fn mask_all(t0: &[u8; 256], t1: &[u8; 256], start: Zuc, buf: &mut [u8]) -> Zuc
+    requires { ⌜ now t0 ≡ S₀-table ⌝ ∗ ⌜ now t1 ≡ S₁-table ⌝ ∗ ⌜ Cells (stateOf start .cells) ⌝ }
+    ensures state { λ r. ⌜ stateOf r ≡ after (wordsToMask (length (now (buf .entry)))) (stateOf start) ⌝ }
+    ensures bytes { λ r. ⌜ now (buf .exit) ≡ eachFrom (masked (wordAt (stateOf start))) 0 (now (buf .entry)) ⌝ }
+{
+    let mut z = start;
+    let mut i: usize = 0;
+    while 4 <= buf.len() - i {
+        // A draw in its parts, which are inlined here as a whole draw is not.
+        let moved = zuc::shift(z);
+        let out = zuc::f(t0, t1, moved);
+        let e = i + 4;
+        xor_word(out.word ^ zuc::x3(moved), &mut buf[i..e]);
+        let next = out.next;
+        z = next;
+        i = e;
+    }
+    let last = zuc::draw(t0, t1, z);
+    xor_rest(last.word, &mut buf[i..]);
+    last.next
+}
+
+// Both modes: they differ in how many high bits of byte floor(bits/8) are kept.
+fn mask(start: Zuc, buf: &mut [u8], bits: usize, kept: usize) -> Masked
+    requires { ⌜ kept ≤ 8 ⌝ }
+    ensures { λ r. ⌜ told r (now (buf .exit)) ≡ outcomeTo (bits / 8 * 8 + kept) (stateOf start) bits (now (buf .entry)) ⌝ }
+{
+    if !zuc::is_well_formed(start) {
+        return Masked {
+            answer: MaskAnswer::Malformed,
+            state: start,
+        };
+    }
+    let n = buf.len();
+    if !words::bits_fit(bits, n) {
+        return Masked {
+            answer: MaskAnswer::TooLong,
+            state: start,
+        };
+    }
+    let t0 = S0;
+    let t1 = S1;
+    let state = mask_all(&t0, &t1, start, buf);
+    keep_bits(buf, bits / 8, kept);
+    Masked {
+        answer: MaskAnswer::Done(n / 4 + 1),
+        state,
+    }
+}
+
+// As the crate does: a byte whose first bit is the first past the length stays masked.
+pub fn mask_crate(state: Zuc, buf: &mut [u8], bits: usize) -> Masked
+    ensures { λ r. ⌜ told r (now (buf .exit)) ≡ crateOutcome (stateOf state) bits (now (buf .entry)) ⌝ }
+{
+    let part = bits % 8;
+    if part == 0 {
+        return mask(state, buf, bits, 8);
+    }
+    mask(state, buf, bits, part)
+}
+
+// Every bit at or past the length is zeroed.
+pub fn mask_clean(state: Zuc, buf: &mut [u8], bits: usize) -> Masked
+    ensures { λ r. ⌜ told r (now (buf .exit)) ≡ cleanOutcome (stateOf state) bits (now (buf .entry)) ⌝ }
+{
+    mask(state, buf, bits, bits % 8)
+}

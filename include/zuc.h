@@ -1,0 +1,270 @@
+/*
+ * zuc.h - the ZUC stream ciphers: ZUC-128, ZUC-256, 128-EEA3 and 128-EIA3
+ *
+ * The C interface of the static library libcapi.a. Every function is proved to
+ * answer what is said of it here, whatever arguments it is given that keep to
+ * "Lending" below.
+ *
+ * ANSWERS. Every function returns 0 when it has done its work and otherwise the
+ * number of the refusal, ZUC_BAD_WIDTH .. ZUC_BAD_BITS. Where several apply, the
+ * lowest is given, so they are checked in the order of their numbers.
+ *
+ * REFUSALS ALTER NOTHING that a caller could go on with:
+ *   - a state that was lent to a draw, mask, update or finish stays as it came,
+ *     and so does every buffer, `out` of zuc_words included;
+ *   - *word, *count, tag[0] and tag[1] are set to 0;
+ *   - a start fills its state with zeros. Every later call refuses such a state
+ *     (ZUC_BAD_STATE), so a start whose answer nobody looked at masks nothing.
+ *
+ * STATES are plain arrays of numbers that the caller owns. They hold no pointer:
+ * they may be copied, moved and stored. They are as secret as the key. A state
+ * is never trusted: a function that is lent one looks at it first and refuses it
+ * when it is malformed, whatever numbers it holds.
+ *
+ * LENDING. A pointer with a length `n` is to n elements; it may be NULL if n is
+ * 0. Every other pointer is to one object of the type shown and is not NULL.
+ * What a function writes to (state, buf, out, word, count, tag) overlaps nothing
+ * else that the same call is lent. Nothing is kept after a function returns.
+ *
+ * BITS. A bit length counts from the highest bit of the first byte. It may be
+ * anything up to 8 times the bytes lent; one more is ZUC_BAD_BITS. The two are
+ * compared as whole numbers: no length is too long to be compared rightly.
+ *
+ * THREADS. There is no shared state: calls on different states may run at once.
+ */
+#ifndef ZUC_H
+#define ZUC_H
+
+#include <stddef.h>
+#include <stdint.h>
+
+#ifdef __cplusplus
+extern "C" {
+#endif
+
+/* Words of a generator's state: the cells s0..s15, then R1, then R2. */
+#define ZUC_STATE_WORDS 18
+
+/* Words of a tag's state. What stands where is the library's own affair. */
+#define ZUC_TAG_WORDS 27
+
+/* Refusals, in the order in which they are checked. */
+#define ZUC_BAD_WIDTH 1u /* the tag width is not 4, 8 or 16 bytes */
+#define ZUC_BAD_KEY 2u   /* the key is not 16 bytes, or 32 for ZUC-256 */
+#define ZUC_BAD_IV 3u    /* the IV is not 16 bytes, or 23 for ZUC-256 */
+#define ZUC_BAD_STATE 4u /* the state is malformed: refused, finished or spoilt */
+#define ZUC_BAD_BITS 5u  /* the bit length is more than 8 times the bytes lent */
+
+/* ---------------------------------------------------------------------------
+ * Generators. A state is malformed when one of its sixteen cells is outside
+ * 1..2147483647; any R1 and R2 will do.
+ * ------------------------------------------------------------------------- */
+
+/*
+ * Starts ZUC-128: 16 bytes of key, 16 of IV.
+ *
+ * Fills `state`. Refuses with ZUC_BAD_KEY, ZUC_BAD_IV; the state is then zeros.
+ */
+uint32_t zuc128_start(uint32_t state[ZUC_STATE_WORDS],
+                      const uint8_t *key, size_t key_len,
+                      const uint8_t *iv, size_t iv_len);
+
+/*
+ * Starts ZUC-256: 32 bytes of key, 23 of IV (17 bytes, then eight numbers of 6
+ * bits joined together, highest bit first).
+ *
+ * Fills `state`. Refuses with ZUC_BAD_KEY, ZUC_BAD_IV; the state is then zeros.
+ */
+uint32_t zuc256_start(uint32_t state[ZUC_STATE_WORDS],
+                      const uint8_t *key, size_t key_len,
+                      const uint8_t *iv, size_t iv_len);
+
+/*
+ * Starts 128-EEA3: ZUC-128 with the IV that COUNT, BEARER and DIRECTION make.
+ * The key is 16 bytes. Of `bearer` the low 5 bits count, of `direction` the
+ * lowest: no value of either is refused.
+ *
+ * Fills `state`. Refuses with ZUC_BAD_KEY; the state is then zeros.
+ */
+uint32_t eea3_start(uint32_t state[ZUC_STATE_WORDS],
+                    uint32_t count, uint8_t bearer, uint8_t direction,
+                    const uint8_t *key, size_t key_len);
+
+/*
+ * Draws the next word of the keystream.
+ *
+ * Sets *word and moves `state` on by one word. Refuses with ZUC_BAD_STATE:
+ * *word is then 0, the state as it came.
+ */
+uint32_t zuc_draw(uint32_t state[ZUC_STATE_WORDS], uint32_t *word);
+
+/*
+ * Draws the next n words of the keystream: n calls of zuc_draw in one.
+ *
+ * Fills out[0..n-1] and moves `state` on by n words; with n = 0 it only checks
+ * the state. Refuses with ZUC_BAD_STATE: `out` and the state are then as they
+ * came.
+ */
+uint32_t zuc_words(uint32_t state[ZUC_STATE_WORDS], uint32_t *out, size_t n);
+
+/* ---------------------------------------------------------------------------
+ * Masking, in place: the same call encrypts and decrypts. Both modes xor the
+ * `len` bytes of `buf` with the keystream, highest byte of a word first, and
+ * both draw len/4 + 1 words, also when len is a multiple of 4 or 0. They differ
+ * in what they leave past the first `bits` bits, which no document defines.
+ * ------------------------------------------------------------------------- */
+
+/*
+ * Masks as the Rust crate zuc 0.4.1 does. Past `bits` it zeroes the rest of
+ * byte bits/8 if bits is no multiple of 8, and every byte after byte bits/8.
+ * So when bits is a multiple of 8 and below 8 * len, byte bits/8 STAYS MASKED:
+ * it is neither plain nor zero. Use zuc_mask_clean unless you must agree with
+ * that crate byte for byte.
+ *
+ * Alters `buf`, moves `state` on by the words drawn and sets *count to their
+ * number. Refuses with ZUC_BAD_STATE, ZUC_BAD_BITS: *count is then 0, the buffer
+ * and the state as they came.
+ */
+uint32_t zuc_mask_crate(uint32_t state[ZUC_STATE_WORDS],
+                        uint8_t *buf, size_t len, size_t bits, size_t *count);
+
+/*
+ * Masks the first `bits` bits and zeroes every bit after them. In all else as
+ * zuc_mask_crate.
+ *
+ * Alters `buf`, moves `state` on by the words drawn and sets *count to their
+ * number. Refuses with ZUC_BAD_STATE, ZUC_BAD_BITS: *count is then 0, the buffer
+ * and the state as they came.
+ */
+uint32_t zuc_mask_clean(uint32_t state[ZUC_STATE_WORDS],
+                        uint8_t *buf, size_t len, size_t bits, size_t *count);
+
+/* ---------------------------------------------------------------------------
+ * Tags, in steps: a start, any number of updates, one finish. How a message is
+ * cut into updates does not matter. A tag is a number: one of 32 or 64 bits
+ * stands in tag[0], with 0 in tag[1]; one of 128 has its high half in tag[0]
+ * and its low half in tag[1].
+ *
+ * A ZUC-128 or EIA3 state is taken by zuc128_tag_update and zuc128_tag_finish,
+ * a ZUC-256 one by zuc256_tag_update and zuc256_tag_finish. The width that
+ * stands in a state says how it is read. So the first two refuse every ZUC-256
+ * state of 64 or 128 bits; states of 32 bits look alike, and the caller must
+ * know whose they are.
+ * ------------------------------------------------------------------------- */
+
+/*
+ * Starts a ZUC-128 tag of 32 bits: 16 bytes of key, 16 of IV.
+ *
+ * Fills `state`. Refuses with ZUC_BAD_KEY, ZUC_BAD_IV; the state is then zeros.
+ */
+uint32_t zuc128_tag_start(uint64_t state[ZUC_TAG_WORDS],
+                          const uint8_t *key, size_t key_len,
+                          const uint8_t *iv, size_t iv_len);
+
+/*
+ * Starts a 128-EIA3 tag of 32 bits: a ZUC-128 tag with the IV that COUNT, BEARER
+ * and DIRECTION make. The key is 16 bytes. Of `bearer` the low 5 bits count, of
+ * `direction` the lowest: no value of either is refused.
+ *
+ * Fills `state`. Refuses with ZUC_BAD_KEY; the state is then zeros.
+ */
+uint32_t eia3_tag_start(uint64_t state[ZUC_TAG_WORDS],
+                        uint32_t count, uint8_t bearer, uint8_t direction,
+                        const uint8_t *key, size_t key_len);
+
+/*
+ * Starts a ZUC-256 tag of `width` bytes, 4, 8 or 16: 32 bytes of key, 23 of IV.
+ *
+ * Fills `state`. Refuses with ZUC_BAD_WIDTH, ZUC_BAD_KEY, ZUC_BAD_IV; the state
+ * is then zeros.
+ */
+uint32_t zuc256_tag_start(uint64_t state[ZUC_TAG_WORDS], size_t width,
+                          const uint8_t *key, size_t key_len,
+                          const uint8_t *iv, size_t iv_len);
+
+/*
+ * Takes the next `len` bytes of the message into a ZUC-128 or EIA3 tag. With
+ * len = 0 it only checks the state.
+ *
+ * Alters `state`. Refuses with ZUC_BAD_STATE: the state is then as it came.
+ */
+uint32_t zuc128_tag_update(uint64_t state[ZUC_TAG_WORDS],
+                           const uint8_t *msg, size_t len);
+
+/*
+ * Takes the next `len` bytes of the message into a ZUC-256 tag. With len = 0 it
+ * only checks the state.
+ *
+ * Alters `state`. Refuses with ZUC_BAD_STATE: the state is then as it came.
+ */
+uint32_t zuc256_tag_update(uint64_t state[ZUC_TAG_WORDS],
+                           const uint8_t *msg, size_t len);
+
+/*
+ * Takes the first `bits` bits of `tail` as the end of the message and closes a
+ * ZUC-128 or EIA3 tag.
+ *
+ * Sets tag[0], tag[1] and fills `state` with zeros, so that a tag closes once.
+ * Refuses with ZUC_BAD_STATE, ZUC_BAD_BITS: the tag is then 0, the state as it
+ * came.
+ */
+uint32_t zuc128_tag_finish(uint64_t state[ZUC_TAG_WORDS],
+                           const uint8_t *tail, size_t len, size_t bits,
+                           uint64_t tag[2]);
+
+/*
+ * Takes the first `bits` bits of `tail` as the end of the message and closes a
+ * ZUC-256 tag of the width that it was started with.
+ *
+ * Sets tag[0], tag[1] and fills `state` with zeros, so that a tag closes once.
+ * Refuses with ZUC_BAD_STATE, ZUC_BAD_BITS: the tag is then 0, the state as it
+ * came.
+ */
+uint32_t zuc256_tag_finish(uint64_t state[ZUC_TAG_WORDS],
+                           const uint8_t *tail, size_t len, size_t bits,
+                           uint64_t tag[2]);
+
+/* ---------------------------------------------------------------------------
+ * Tags, at once: start and finish in one call, with nothing left to keep.
+ * ------------------------------------------------------------------------- */
+
+/*
+ * The ZUC-128 tag, 32 bits, of the first `bits` bits of `msg`.
+ *
+ * Sets tag[0], tag[1]. Refuses with ZUC_BAD_KEY, ZUC_BAD_IV, ZUC_BAD_BITS: the
+ * tag is then 0.
+ */
+uint32_t zuc128_tag(const uint8_t *key, size_t key_len,
+                    const uint8_t *iv, size_t iv_len,
+                    const uint8_t *msg, size_t len, size_t bits,
+                    uint64_t tag[2]);
+
+/*
+ * The 128-EIA3 tag, 32 bits, of the first `bits` bits of `msg`. Bearer and
+ * direction are read as by eia3_tag_start.
+ *
+ * Sets tag[0], tag[1]. Refuses with ZUC_BAD_KEY, ZUC_BAD_BITS: the tag is then
+ * 0.
+ */
+uint32_t eia3_tag(uint32_t count, uint8_t bearer, uint8_t direction,
+                  const uint8_t *key, size_t key_len,
+                  const uint8_t *msg, size_t len, size_t bits,
+                  uint64_t tag[2]);
+
+/*
+ * The ZUC-256 tag, `width` bytes, of the first `bits` bits of `msg`.
+ *
+ * Sets tag[0], tag[1]. Refuses with ZUC_BAD_WIDTH, ZUC_BAD_KEY, ZUC_BAD_IV,
+ * ZUC_BAD_BITS: the tag is then 0.
+ */
+uint32_t zuc256_tag(size_t width,
+                    const uint8_t *key, size_t key_len,
+                    const uint8_t *iv, size_t iv_len,
+                    const uint8_t *msg, size_t len, size_t bits,
+                    uint64_t tag[2]);
+
+#ifdef __cplusplus
+}
+#endif
+
+#endif /* ZUC_H */
