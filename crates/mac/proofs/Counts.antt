@@ -1,7 +1,7 @@
 -- The words drawn after each call (document 01, "Tags"), that accepted starts lead only to accepted updates, and that an empty update
 -- changes nothing.
-use mathlib.Core.Bool.{Bool, true}
-use mathlib.Core.List.{List, [], _∷_}
+use mathlib.Core.Bool.{true}
+use mathlib.Core.List.{List, []}
 use mathlib.Core.Logic.{inl}
 use mathlib.Core.Path.{_≡_, refl, ap, _∙_}
 use Prim.Native.Nat.{ℕ, _+_, _*_, _≤_}
@@ -15,7 +15,7 @@ use Rattle.registers.specs.Stored.{Held, Stored, Width, formed, packed, tagging
 use Rattle.registers.specs.Tagging.{Tagging, begun-EIA3, begun-ZUC256, ended, extraState, leftOver, updated}
 use Rattle.registers.proofs.Packed.{and-both, good-EIA3, good-ZUC256, good-updated, well-formed, width-whole}
 use Rattle.registers.proofs.Rule.{drawn-EIA3, drawn-ZUC256, drawn-closing-EIA3, drawn-closing-ZUC256}
-use Rattle.mac.specs.Calls.{Outcome, formed-128, updateOutcome}
+use Rattle.mac.specs.Calls.{formed-128, updateOutcome}
 use Rattle.mac.specs.Runs.{Updates, joined}
 use Rattle.mac.proofs.Loaded.{Bytes, cells-128, cells-256, row-of}
 use Rattle.mac.proofs.Runs.{at-state, updates-are}

@@ -1,18 +1,18 @@
 -- An accepted start is of well-formed cells: each loaded cell has a constant that is not zero, and fits in 31 bits.
 use mathlib.Core.Path.{_≡_, refl, sym, ap, _∙_, subst}
 use mathlib.Core.Bool.{Bool, true, false, _||_}
-use mathlib.Core.List.{List, [], _∷_}
+use mathlib.Core.List.{List}
 use mathlib.Core.Logic.{_⊎_, inl, inr, ⊎-elim}
-use Prim.Native.Nat.{ℕ, zero, suc, _+_, _-_, _*_, _/_, _%_, _^_, _<_, _≤_}
+use Prim.Native.Nat.{ℕ, suc, _+_, _-_, _*_, _^_, _<_, _≤_}
 use native.Mathlib.Omega.{arith}
 use native.Mathlib.Nat.{zero-add}
-use lib.Bits.{bitOr, or-lt}
-use lib.Dec.{eqb, lit<, ltb}
+use lib.Bits.{or-lt}
+use lib.Dec.{eqb, lit<}
 use lib.ListN.{getD, length}
 use borrow.Author.Tests.{eqb-true, le-ltb, lt-ltb}
 use Rattle.standard.specs.Notation.{if_then_else_, _‖₁₅_, _‖₇_, _‖₈_}
-use Rattle.standard.specs.Bits.{M, window}
-use Rattle.standard.specs.Generator.{Cells, State, _⟨_⟩, started}
+use Rattle.standard.specs.Bits.{M}
+use Rattle.standard.specs.Generator.{Cells, _⟨_⟩, started}
 use Rattle.standard.specs.Loading.{D, d-tag₁₂₈, d-tag₃₂, d-tag₆₄, IV₂₅₆, _∣_, cells₂₅₆, listed, load₁₂₈, load₂₅₆}
 use Rattle.standard.proofs.Cells.{InRange, all-cells}
 use Rattle.standard.proofs.Generator.{sound-started}

@@ -1,14 +1,14 @@
 -- What accepted calls do, from their contracts: the state after any updates is the packing of the joined message's state.
 use mathlib.Core.Bool.{Bool, true, false}
-use mathlib.Core.List.{List, [], _∷_, _++_}
-use mathlib.Core.Path.{_≡_, refl, sym, ap, ap₂, _∙_}
-use Prim.Native.Nat.{ℕ, zero, suc, _+_, _*_, _≤_}
+use mathlib.Core.List.{List}
+use mathlib.Core.Path.{_≡_, refl, sym, ap, _∙_}
+use Prim.Native.Nat.{ℕ, zero, suc, _*_, _≤_}
 use native.Mathlib.Omega.{arith}
 use lib.Dec.{eqb, leb}
 use lib.ListN.{length}
 use borrow.Author.Tests.{leb-true}
 use Rattle.standard.specs.Notation.{if_then_else_}
-use Rattle.standard.specs.Generator.{State, started}
+use Rattle.standard.specs.Generator.{started}
 use Rattle.standard.specs.Loading.{load₁₂₈, load₂₅₆}
 use Rattle.standard.specs.Integrity.{IV-EIA3}
 use Rattle.keystream.specs.Starts.{StartOutcome, isWidth, require, rowOf, startTag₂₅₆, start₁₂₈, start₂₅₆}

@@ -1,9 +1,9 @@
 -- Document 01, "Tags", and demand 3, as theorems about the calls, however a message was cut into updates: the standard's tag of the
 -- joined message; two tags differ by the keystream windows where the messages differ; three xor to the tag of the messages' xor.
-use mathlib.Core.List.{List, [], _∷_, _++_}
+use mathlib.Core.List.{List}
 use mathlib.Core.Logic.{inl}
 use mathlib.Core.Path.{_≡_, refl, sym, ap, ap₂, _∙_}
-use Prim.Native.Nat.{ℕ, _+_, _*_, _<_, _≤_}
+use Prim.Native.Nat.{ℕ, _*_, _<_, _≤_}
 use lib.Bits.{bitXor}
 use lib.ListN.{length}
 use Rattle.standard.specs.Notation.{_⊕_}
@@ -13,8 +13,8 @@ use Rattle.standard.specs.Integrity.{IV-EIA3, T, tag-EIA3, tag-ZUC256}
 use Rattle.standard.specs.Loading.{load₁₂₈, load₂₅₆}
 use Rattle.standard.proofs.Linear.{EIA3-three, EIA3-two, M-xor₃, ZUC256-three, ZUC256-two, xorBytes}
 use Rattle.keystream.specs.Starts.{rowOf}
-use Rattle.registers.specs.Stored.{Stored, Width, formed, packed, tagOf, tagWords, taggingOf}
-use Rattle.registers.specs.Tagging.{Tagging, begun-EIA3, begun-ZUC256, closed-EIA3, closed-ZUC256, updated}
+use Rattle.registers.specs.Stored.{Width, formed, packed, tagOf, tagWords, taggingOf}
+use Rattle.registers.specs.Tagging.{begun-EIA3, begun-ZUC256, closed-EIA3, closed-ZUC256, updated}
 use Rattle.registers.proofs.Packed.{tag-back, width-whole}
 use Rattle.registers.proofs.Rule.{rule-EIA3, rule-ZUC256}
 use Rattle.mac.specs.Calls.{Closing, Outcome, closing, finishOutcome-128, finishOutcome-256, formed-128, noWords, startOutcome-128, startOutcome-256, startOutcome-EIA3}

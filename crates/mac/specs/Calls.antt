@@ -6,7 +6,7 @@ use Prim.Native.Nat.{ℕ, zero, suc, _*_}
 use lib.Dec.{eqb, leb}
 use lib.ListN.{length}
 use Rattle.standard.specs.Notation.{if_then_else_}
-use Rattle.standard.specs.Generator.{Cells, State, keystream}
+use Rattle.standard.specs.Generator.{Cells, keystream}
 use Rattle.standard.specs.Integrity.{IV-EIA3, tag-EIA3, tag-ZUC256}
 use Rattle.standard.specs.Loading.{load₁₂₈, load₂₅₆}
 use Rattle.keystream.specs.Starts.{StartOutcome, isWidth, rowOf, startNumber, startTag₂₅₆, start₁₂₈}

@@ -1,16 +1,14 @@
 -- The block that closes a message: its set bit after the message's bits stands for the last window, and its zeros for nothing.
 use mathlib.Core.Path.{_≡_, refl, sym, ap, ap₂, _∙_}
-use mathlib.Core.Bool.{Bool}
 use mathlib.Core.List.{List, [], _∷_, _++_}
 use mathlib.Core.Logic.{⊎-elim}
 use Prim.Native.Nat.{ℕ, zero, suc, _+_, _-_, _*_, _/_, _%_, _^_, _<_, _≤_}
 use native.Mathlib.Omega.{arith}
 use native.Mathlib.Nat.{add-zero, div-eq-of-lt, eq-zero-or-pos, lt-of-lt-of-le, mod-eq-of-lt, mul-assoc, pow-le-pow-right, pow-suc, zero-add, zero-div}
-use native.Mathlib.Numerals.{add-one}
 use lib.ListN.{drop, getD, length, replicate}
 use lib.Seq.{drop-at, getD-drop}
 use lib.Bits.{bitXor, xor-zero-r}
-use lib.Pow.{pow-add, pow-pos, shl-lt, shl-shr, shr-lt, shr-shr}
+use lib.Pow.{pow-add, shl-lt, shl-shr, shr-lt, shr-shr}
 use lib.Dec.{eqb}
 use borrow.Author.Tests.{eq-eqb, ne-eqb}
 use Rattle.standard.specs.Notation.{_⊕_, if_then_else_}

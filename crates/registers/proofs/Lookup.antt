@@ -3,7 +3,7 @@ use mathlib.Core.Path.{_≡_, refl, sym, ap, ap₂, _∙_}
 use mathlib.Core.List.{[], _∷_}
 use Prim.Native.Nat.{ℕ, zero, suc, _+_, _-_, _*_, _/_, _%_, _^_, _<_, _≤_}
 use native.Mathlib.Omega.{arith}
-use native.Mathlib.Nat.{add-zero, div-one, zero-add, zero-div}
+use native.Mathlib.Nat.{div-one, zero-add, zero-div}
 use lib.ListN.{getD}
 use lib.Bits.{bitXor, xor-mod, xor-shr, xor-zero-l, xor-zero-r}
 use lib.Pow.{shr-shr}
@@ -11,16 +11,11 @@ use Rattle.standard.specs.Notation.{_⊕_}
 use Rattle.standard.specs.Bits.{bitOf, window}
 use Rattle.standard.specs.Loading.{listed}
 use Rattle.standard.specs.Integrity.{T, whereSet}
+use Rattle.standard.proofs.Listed.{getD-listed}
 use Rattle.standard.proofs.Sum.{sum-split}
 use Rattle.standard.proofs.Window.{window-bitOf}
 use Rattle.standard.proofs.Xor.{xor-assoc}
 use Rattle.registers.specs.Lookup.{lookedUp, multiple, multiplesOf, summed}
-
-pub getD-listed : (f : ℕ → ℕ) (i n k : ℕ) → k < n → getD (listed f i n) k 0 ≡ f (i + k)
-unfolding listed
-getD-listed f i zero k h = absurd (omega arith)
-getD-listed f i (suc n) zero h = ap f (sym (add-zero i))
-getD-listed f i (suc n) (suc k) h = getD-listed f (suc i) n k (omega arith) ∙ ap f (omega arith)
 
 whereSet-field : (b x q : ℕ) → whereSet b x / 2 ^ q % 2 ^ 32 ≡ whereSet b (x / 2 ^ q % 2 ^ 32)
 whereSet-field zero x q = ap (λ (y : ℕ). y % 2 ^ 32) (zero-div (2 ^ q))

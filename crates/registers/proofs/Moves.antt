@@ -1,6 +1,6 @@
 -- What the code's steps on a held struct do to the state that it packs: a start, a block, a byte that waits or fills, a turn.
 use mathlib.Core.Path.{_≡_, refl, sym, ap, ap₂, _∙_}
-use mathlib.Core.List.{List, [], _∷_, _++_, append-nil}
+use mathlib.Core.List.{List, [], _∷_, _++_}
 use mathlib.Core.Logic.{⊎-elim}
 use Prim.Native.Nat.{ℕ, zero, suc, _+_, _-_, _*_, _/_, _%_, _^_, _<_, _≤_}
 use native.Mathlib.Omega.{arith}
@@ -12,12 +12,12 @@ use Rattle.standard.specs.Bits.{M, bitOf, window, z}
 use Rattle.standard.specs.Generator.{State, after, wordAt}
 use Rattle.standard.specs.Integrity.{T}
 use Rattle.standard.proofs.Generator.{after-after}
-use Rattle.standard.proofs.Window.{window-ext, window-lt, window-split}
-use Rattle.registers.specs.Stored.{Blocks, Good, Held, Stored, Width, Words, fresh, keyOf, keyWords, packed, tagOf, tagWords, taggingOf}
+use Rattle.standard.proofs.Window.{window-lt, window-split}
+use Rattle.registers.specs.Stored.{Blocks, Held, Stored, Width, Words, fresh, keyOf, keyWords, packed, tagOf, tagWords, taggingOf}
 use Rattle.registers.specs.Tagging.{Tagging, absorbed, begun, begun-EIA3, begun-ZUC256, fed, updated}
 use Rattle.registers.proofs.Cutting.{absorbed-fills, absorbed-waits, updated-block}
 use Rattle.registers.proofs.Followed.{moved-up}
-use Rattle.registers.proofs.Message.{window-after, z-after, z-lt}
+use Rattle.registers.proofs.Message.{window-after, z-lt}
 use Rattle.registers.proofs.Packed.{key-back, tag-back, width-most, width-whole}
 
 -- fresh words as a number

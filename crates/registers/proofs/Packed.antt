@@ -13,11 +13,11 @@ use lib.Dec.{eqb, ltb}
 use lib.ListN.{drop, length, length-append, length-drop, replicate, take, take-append-drop}
 use lib.Seq.{drop-at, drop-cons, length-take-le, take-at}
 use lib.Bits.{xor-lt}
-use lib.Pow.{high, low, split}
+use lib.Pow.{split}
 use borrow.Author.Tests.{eq-eqb, eqb-true, lt-ltb, ltb-true, ne-eqb}
-use Rattle.standard.specs.Notation.{_⊕_, if_then_else_}
-use Rattle.standard.specs.Bits.{M, bitOf, window, z}
-use Rattle.standard.specs.Generator.{Cells, State, _⟨_⟩, wellFormed, wordAt}
+use Rattle.standard.specs.Notation.{if_then_else_}
+use Rattle.standard.specs.Bits.{M, bitOf, z}
+use Rattle.standard.specs.Generator.{State, _⟨_⟩, wellFormed, wordAt}
 use Rattle.standard.specs.Integrity.{T}
 use Rattle.standard.proofs.Cells.{cells-wellFormed, wellFormed-cells}
 use Rattle.standard.proofs.Generator.{Sound, sound-after}

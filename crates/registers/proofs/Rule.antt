@@ -4,7 +4,7 @@ use mathlib.Core.Path.{_≡_, refl, sym, ap, ap₂, _∙_}
 use mathlib.Core.List.{List, [], _++_, append-assoc}
 use mathlib.Core.Logic.{⊎-elim}
 use mathlib.Core.Bool.{Bool}
-use Prim.Native.Nat.{ℕ, suc, _+_, _*_, _/_, _%_, _^_, _<_, _≤_, _-_}
+use Prim.Native.Nat.{ℕ, _+_, _*_, _/_, _%_, _^_, _<_, _≤_, _-_}
 use native.Mathlib.Omega.{arith}
 use native.Mathlib.Nat.{add-zero, eq-zero-or-pos, mul-add, mul-assoc, mul-comm, zero-add}
 use lib.ListN.{drop, length, length-append, length-drop, take, take-append-drop}
@@ -13,7 +13,7 @@ use lib.Bits.{bitXor, xor-zero-r}
 use lib.Pow.{low}
 use borrow.Author.Tests.{eq-eqb, ne-eqb}
 use Rattle.standard.specs.Notation.{_⊕_, ceil, if_then_else_}
-use Rattle.standard.specs.Bits.{M, bitOf, window, z}
+use Rattle.standard.specs.Bits.{M, window, z}
 use Rattle.standard.specs.Generator.{State, after, next, word, wordAt}
 use Rattle.standard.specs.Integrity.{T, drawnAfter-EIA3, drawnAfter-ZUC256, drawnByTag-EIA3, drawnByTag-ZUC256, tag-EIA3, tag-ZUC256}
 use Rattle.standard.proofs.Extra.{extra-word, window-word}

@@ -6,22 +6,21 @@ use Prim.Native.Nat.{ℕ, _+_, _*_, _/_, _%_, _^_, _<_, _≤_}
 use native.Mathlib.Omega.{arith}
 use native.Mathlib.Nat.{lt-of-lt-of-le, mod-eq-of-lt, pow-le-pow-right, zero-add}
 use lib.Arith.{digits-lt}
-use lib.Bits.{bitXor, xor-block, xor-lt}
+use lib.Bits.{xor-block, xor-lt}
 use lib.Pow.{high, low, shr-lt}
 use Rattle.standard.specs.Notation.{_⊕_}
 use Rattle.standard.specs.Bits.{M, bitOf, window, z}
-use Rattle.standard.specs.Generator.{State, _⟨_⟩, after, next, word, wordAt}
+use Rattle.standard.specs.Generator.{State, _⟨_⟩, after, next, wordAt}
 use Rattle.standard.specs.Integrity.{T}
-use Rattle.standard.proofs.Extra.{window-word}
-use Rattle.standard.proofs.Generator.{after-after, after-more, after-none, word-after, wordAt-lt}
+use Rattle.standard.proofs.Generator.{wordAt-lt}
 use Rattle.standard.proofs.Linear.{M-lt}
 use Rattle.standard.proofs.Sum.{sum-ext}
 use Rattle.standard.proofs.Window.{bit-window, window-cell, window-cells, window-lt, window-split}
 use borrow.Author.Tests.{ne-eqb}
 use Rattle.registers.specs.Lookup.{between, summed}
-use Rattle.registers.specs.Stored.{Width, Words, _‖₁₂₈_, _‖₆₄_, fresh, keyOf, keyWords, tagOf, tagWords}
+use Rattle.registers.specs.Stored.{Width, _‖₁₂₈_, _‖₆₄_, fresh, keyOf, keyWords, tagOf, tagWords}
 use Rattle.registers.proofs.Followed.{moved-up}
-use Rattle.registers.proofs.Message.{window-after, z-lt}
+use Rattle.registers.proofs.Message.{z-lt}
 
 -- a key pair moved up by half, in its halves
 moved-low : (t hi lo : ℕ) → lo < 2 ^ t → (hi * 2 ^ t + lo) * 2 ^ t % 2 ^ (t + t) ≡ lo * 2 ^ t

@@ -1,7 +1,7 @@
 -- Laws of the sum T of windows at set bits, over the width: its bound, what it reads, in two parts either way, linear; by induction on the length.
 use mathlib.Core.Path.{_≡_, refl, sym, ap, ap₂, _∙_}
 use Prim.Native.Nat.{ℕ, zero, suc, _+_, _*_, _^_, _<_}
-use native.Mathlib.Nat.{add-zero, zero-add, add-suc, add-assoc}
+use native.Mathlib.Nat.{add-zero, add-suc, add-assoc}
 use native.Mathlib.Omega.{arith}
 use lib.Bits.{bitXor, xor-self, xor-zero-r, xor-lt, xor-block}
 use lib.Pow.{pow-pos}

@@ -1,9 +1,7 @@
 -- `mac::is_formed_128` meets its contract: well formed, and of width 4.
-use mathlib.Core.Bool.{Bool, true, false}
-use mathlib.Core.Path.{_≡_, refl, sym, ap, _∙_}
+use mathlib.Core.Path.{refl, sym, _∙_}
 use borrow.Author.Needs.{needs}
 use borrow.Author.Tests.{eq-eqb, ne-eqb, not-false, not-true}
-use Rattle.registers.specs.Stored.{Held, storedOf}
 use Rattle.mac.specs.Calls.{formed-128}
 use Rattle.mac.proofs.is_formed_128.Statement.{statement}
 use Rattle.mac.proofs.is_formed_128.Tie as tie

@@ -10,8 +10,8 @@ use denote.Ref.{now}
 use Rattle.standard.specs.Boxes.{S₀-table, S₁-table}
 use Rattle.keystream.specs.Starts.{startNumber}
 use Rattle.zuc.specs.Reading.{stateOf}
-use Rattle.registers.specs.Stored.{Stored, packed, storedOf, taggingOf}
-use Rattle.registers.specs.Tagging.{Tagging, begun-EIA3, closed-EIA3}
+use Rattle.registers.specs.Stored.{Stored, packed}
+use Rattle.registers.specs.Tagging.{closed-EIA3}
 use Rattle.registers.proofs.Packed.{at-packed, good-EIA3, held-as}
 use Rattle.mac.proofs.tag_from.Statement.{statement}
 use Rattle.mac.proofs.tag_from.Tie as tie

@@ -1,6 +1,5 @@
 -- `mac::update_state` meets its contract: refused, or the inner update.
-use mathlib.Core.Path.{refl, sym, ap, _∙_}
-use borrow.Author.Needs.{needs}
+use mathlib.Core.Path.{refl, ap}
 use borrow.Author.Tests.{not-false, not-true}
 use Rattle.standard.specs.Boxes.{S₀-table, S₁-table}
 use Rattle.registers.specs.Stored.{Stored}

@@ -1,7 +1,7 @@
 -- `registers::key_on` meets its contract: at each width the low half of the key moves up.
 use mathlib.Core.List.{[], _∷_}
 use mathlib.Core.Path.{ap, _∙_}
-use Prim.Native.Nat.{ℕ, _<_, _^_, _*_}
+use Prim.Native.Nat.{ℕ}
 use borrow.Author.Needs.{needs}
 use mir.Syntax.{w64}
 use mir.Val.{Fits}

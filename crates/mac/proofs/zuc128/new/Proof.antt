@@ -3,7 +3,6 @@ use mathlib.Core.Path.{_∙_, ap, subst, sym}
 use native.Mathlib.Omega.{arith}
 use borrow.Author.Needs.{needs}
 use denote.Ref.{now}
-use Rattle.keystream.specs.Starts.{StartOutcome}
 use Rattle.mac.specs.Calls.{Ready, begun-128, startOutcome-128}
 use Rattle.mac.proofs.Loaded.{ready-128}
 use Rattle.mac.proofs.zuc128.new.Statement.{statement}

@@ -1,10 +1,8 @@
 -- `mac::zuc256::compute` meets its contract: each answer of the keystream's start keeps its number; else the standard's tag.
-use mathlib.Core.Bool.{true}
-use mathlib.Core.List.{List, [], _∷_}
+use mathlib.Core.List.{List}
 use mathlib.Core.Path.{_≡_, refl, sym, ap, _∙_, subst}
-use Prim.Native.Nat.{ℕ, suc, _*_}
+use Prim.Native.Nat.{ℕ, _*_}
 use native.Mathlib.Omega.{arith}
-use lib.Dec.{leb}
 use lib.ListN.{length}
 use borrow.Author.Needs.{needs}
 use borrow.Author.Tests.{leb-true, not-false, not-true}
@@ -12,7 +10,7 @@ use denote.Ref.{now}
 use Rattle.standard.specs.Boxes.{S₀-table, S₁-table}
 use Rattle.standard.specs.Generator.{Cells}
 use Rattle.zuc.specs.Reading.{stateOf}
-use Rattle.keystream.specs.Starts.{StartOutcome, startNumber, startTag₂₅₆, startTold}
+use Rattle.keystream.specs.Starts.{StartOutcome, startNumber, startTold}
 use Rattle.registers.specs.Stored.{Width, tagWords}
 use Rattle.registers.specs.Tagging.{closed-ZUC256}
 use Rattle.registers.proofs.Packed.{at-packed, good-ZUC256, held-as}

@@ -1,6 +1,5 @@
 -- `mac::zuc256::new` meets its contract: each answer of the keystream's start keeps its number; else a tag state of the width.
 use mathlib.Core.Path.{_≡_, refl, sym, ap, _∙_, subst}
-use Prim.Native.Nat.{ℕ}
 use native.Mathlib.Omega.{arith}
 use borrow.Author.Needs.{needs}
 use denote.Ref.{now}

@@ -2,7 +2,6 @@
 use mathlib.Core.Path.{sym}
 use native.Mathlib.Omega.{arith}
 use lib.Seq.{length-take-le}
-use borrow.Author.Needs.{needs}
 use denote.Ref.{now}
 use Rattle.registers.specs.Stored.{storedOf}
 use Rattle.registers.proofs.Ends.{closes-256, end-held}

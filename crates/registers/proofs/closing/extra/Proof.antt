@@ -1,5 +1,5 @@
 -- `registers::closing::extra` meets its contract: the low half of the key pair where no bit is left over, and else a draw.
-use mathlib.Core.Path.{refl, _∙_}
+use mathlib.Core.Path.{refl}
 use borrow.Author.Needs.{needs}
 use borrow.Author.Tests.{eq-eqb, ne-eqb}
 use Rattle.registers.specs.Stored.{keyOf, taggingOf}

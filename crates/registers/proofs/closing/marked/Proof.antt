@@ -1,7 +1,7 @@
 -- `registers::closing::marked` meets its contract: the marked byte fits.
 use native.Mathlib.Nat.{mod-eq-of-lt}
 use native.Mathlib.Omega.{arith}
-use Prim.Native.Nat.{ℕ, _-_, _/_, _^_, _<_}
+use Prim.Native.Nat.{_-_, _/_, _^_, _<_}
 use borrow.Author.Needs.{needs}
 use Rattle.registers.proofs.Last.{marked-fits, marked-half, marked-lt}
 use Rattle.registers.proofs.closing.marked.Statement.{statement}

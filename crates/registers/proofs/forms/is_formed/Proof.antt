@@ -1,6 +1,6 @@
 -- `registers::forms::is_formed` meets its contract: the tests are the definition's, in its order.
 use mathlib.Core.Bool.{Bool, true, false}
-use mathlib.Core.Path.{_≡_, refl, sym, ap, _∙_}
+use mathlib.Core.Path.{_≡_, refl, sym, _∙_}
 use borrow.Author.Needs.{needs}
 use borrow.Author.Tests.{le-ltb, lt-ltb, not-false, not-true}
 use Prim.Native.Nat.{ℕ}

@@ -1,5 +1,5 @@
 -- `registers::forms::unused_zero` meets its contract: each width's unused parts.
-use mathlib.Core.Path.{refl, sym, ap, _∙_}
+use mathlib.Core.Path.{_∙_}
 use borrow.Author.Needs.{needs}
 use Rattle.registers.proofs.Packed.{unused-at-4, unused-at-8, unused-none}
 use Rattle.registers.proofs.forms.unused_zero.Statement.{statement}

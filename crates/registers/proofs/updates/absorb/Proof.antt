@@ -1,6 +1,6 @@
 -- `registers::updates::absorb` meets its contract: the byte waits at the first free place, or fills the block.
 use mathlib.Core.Path.{_≡_, refl, sym}
-use Prim.Native.Nat.{ℕ, _≤_}
+use Prim.Native.Nat.{_≤_}
 use native.Mathlib.Omega.{arith}
 use lib.ListN.{length, length-set, set}
 use lib.Seq.{length-take-le}

@@ -1,7 +1,6 @@
 -- `registers::updates::begin_128` meets its contract: it begins with no tag.
 use mathlib.Core.Logic.{inl}
 use mathlib.Core.Path.{refl, ap, _∙_}
-use borrow.Author.Needs.{needs}
 use Rattle.zuc.specs.Reading.{stateOf}
 use Rattle.registers.specs.Stored.{packed, tagOf, tagWords}
 use Rattle.registers.proofs.Moves.{begun-128}

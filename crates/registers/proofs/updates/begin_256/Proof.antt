@@ -1,7 +1,5 @@
 -- `registers::updates::begin_256` meets its contract: it begins with fresh words as the tag.
-use mathlib.Core.Path.{_≡_, ap, _∙_, subst, sym}
-use mathlib.Core.List.{List}
-use Prim.Native.Nat.{ℕ}
+use mathlib.Core.Path.{ap, _∙_, subst, sym}
 use borrow.Author.Needs.{needs}
 use Rattle.standard.proofs.Generator.{Sound, sound-after}
 use Rattle.zuc.specs.Reading.{stateOf}

@@ -1,12 +1,10 @@
 -- `registers::updates::blocks` meets its contract: after each turn one block more has been taken in.
-use mathlib.Core.List.{List}
-use mathlib.Core.Path.{_≡_, refl, sym, ap, ap₂, _∙_}
-use Prim.Native.Nat.{ℕ, suc, _+_, _*_, _-_, _≤_, _<_}
-use native.Mathlib.Nat.{add-zero, suc-mul, zero-mul}
+use mathlib.Core.Path.{_≡_, sym, ap, _∙_}
+use Prim.Native.Nat.{ℕ, suc, _+_, _*_, _-_, _≤_}
+use native.Mathlib.Nat.{suc-mul}
 use native.Mathlib.Omega.{arith}
 use lib.ListN.{drop, length, length-drop, take}
 use lib.Seq.{length-take-le}
-use borrow.Author.Needs.{needs}
 use denote.Ref.{now}
 use Rattle.registers.specs.Stored.{Stored, packed, storedOf, taggingOf}
 use Rattle.registers.specs.Tagging.{fed, updated}

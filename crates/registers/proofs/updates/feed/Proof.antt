@@ -1,6 +1,5 @@
 -- `registers::updates::feed` meets its contract: the block's sum, and the key pair moved on.
 use native.Mathlib.Omega.{arith}
-use borrow.Author.Needs.{needs}
 use denote.Ref.{now}
 use Rattle.zuc.specs.Reading.{stateOf}
 use Rattle.registers.specs.Stored.{storedOf, taggingOf, wordsOf}

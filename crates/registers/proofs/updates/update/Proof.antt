@@ -1,13 +1,12 @@
 -- `registers::updates::update` meets its contract: after each turn the state is that of the bytes taken in so far.
 use mathlib.Core.Path.{_≡_, sym, ap, _∙_}
-use Prim.Native.Nat.{ℕ, _*_, _-_, _≤_}
+use Prim.Native.Nat.{_*_, _-_, _≤_}
 use native.Mathlib.Omega.{arith}
 use lib.ListN.{drop, length, take}
 use lib.Seq.{take-all}
-use borrow.Author.Needs.{needs}
 use denote.Ref.{now}
 use Rattle.registers.specs.Stored.{packed, storedOf, taggingOf}
-use Rattle.registers.specs.Tagging.{Tagging, updated}
+use Rattle.registers.specs.Tagging.{updated}
 use Rattle.registers.proofs.Cutting.{updated-on}
 use Rattle.registers.proofs.Packed.{at-packed, good-updated, held-as}
 use Rattle.registers.proofs.updates.update.Statement.{statement}
