@@ -1,7 +1,9 @@
 // Generators: starts, draws and masks.
+ghost use mathlib.Core.List.{List};
 ghost use mathlib.Core.Path.{_≡_};
+ghost use Prim.Native.Nat.{ℕ};
 ghost use Rattle.capi.specs.Arrays.{stateIn};
-ghost use Rattle.capi.specs.Generators.{drawArray, PutMask, maskArray, startArray, wordsArray};
+ghost use Rattle.capi.specs.Generators.{drawArray, maskArray, startArray, wordsArray};
 ghost use Rattle.keystream.specs.Draws.{drawNumber, drawOutcome, drawWord, fillNumber, fillOutcome};
 ghost use Rattle.keystream.specs.Starts.{startNumber, startTold, start₁₂₈, start₂₅₆, start-EEA3};
 ghost use Rattle.mask.specs.Outcome.{cleanOutcome, countOf, crateOutcome, numberOf, told};
@@ -133,9 +135,9 @@ pub extern "C" fn zuc_words(state: &mut [u32; 18], out: &mut [u32]) -> u32
     fill_number(answer)
 }
 
-// What a masking call hands back goes into the array and the count.
+// What a masking call hands back goes into the array and the count, whatever its buffer became.
 fn put_mask(masked: Masked, state: &mut [u32; 18], count: &mut usize) -> u32
-    ensures { λ r. ⌜ PutMask masked r (now (state .exit)) (now (count .exit)) ⌝ }
+    ensures { λ r. ⌜ ((buffer : List ℕ) → record { number = r; count = now (count .exit); array = now (state .exit); buffer = buffer } ≡ maskArray (told masked buffer)) ⌝ }
 {
     let next = masked.state;
     let answer = masked.answer;
