@@ -7,5 +7,8 @@ pub mod Table
 pub mod Permutation
 pub mod Cells
 pub mod Generator
+pub mod Sum
+pub mod Extra
+pub mod Linear
 pub mod Listed
 pub mod Examples

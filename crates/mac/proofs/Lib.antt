@@ -1,0 +1,6 @@
+pub mod Loaded
+pub mod Outcomes
+pub mod Runs
+pub mod Theorems
+pub mod Tight
+pub mod Counts

@@ -1,0 +1,35 @@
+-- `mac::eia3::new` meets its contract: the ZUC-128 start with EIA3's IV.
+use mathlib.Core.Path.{_∙_, ap, subst, sym}
+use mathlib.Core.List.{List}
+use Prim.Native.Nat.{ℕ}
+use native.Mathlib.Omega.{arith}
+use borrow.Author.Needs.{needs}
+use denote.Ref.{now}
+use mir.Syntax.{w8}
+use mir.Val.{Fits}
+use Rattle.standard.specs.Generator.{_⟨_⟩}
+use Rattle.keystream.specs.Starts.{start₁₂₈}
+use Rattle.mac.specs.Calls.{Ready, begun-128, startOutcome-EIA3}
+use Rattle.mac.proofs.Loaded.{ready-128}
+use Rattle.mac.proofs.eia3.new.Statement.{statement}
+use Rattle.mac.proofs.eia3.new.Tie as tie
+
+iv-bytes : (v : tie.After-iv) (i : ℕ) → Fits w8 (v .iv .result ⟨ i ⟩)
+iv-bytes v i = search needs
+
+begin-from-requires : tie.Need-begin-from-requires
+begin-from-requires c κs =
+    let v = c .before .before in
+    let k = v .before in
+    subst Ready (sym (c .new .ensures))
+    (ready-128 (now (k .before .args .key)) (v .iv .result) (λ i. omega (arith, k .shared-slice-known .given i)) (λ i. iv-bytes v i .fits))
+
+returns : tie.Need-returns
+unfolding startOutcome-EIA3
+returns c =
+    let v = c .before .before .before in
+    let a = v .before .before .args in
+    c .begin-from .ensures ∙ ap begun-128 (c .before .new .ensures ∙ ap (start₁₂₈ (now (a .key))) (v .iv .ensures))
+
+pub new-spec : {M : Type 1} → statement M
+new-spec = tie.close (tie.spec (λ c κs. search needs) (λ c. search needs) (λ c κs. search needs) begin-from-requires returns)

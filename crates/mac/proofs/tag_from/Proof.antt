@@ -1,0 +1,96 @@
+-- `mac::tag_from` meets its contract: each answer of the keystream's start keeps its number; else the closing of a fresh state.
+use mathlib.Core.Bool.{true}
+use mathlib.Core.Path.{_≡_, refl, sym, ap, _∙_}
+use Prim.Native.Nat.{ℕ, _*_}
+use lib.Dec.{leb}
+use lib.ListN.{length}
+use borrow.Author.Needs.{needs}
+use borrow.Author.Tests.{leb-true, not-false, not-true}
+use denote.Ref.{now}
+use Rattle.standard.specs.Boxes.{S₀-table, S₁-table}
+use Rattle.keystream.specs.Starts.{startNumber}
+use Rattle.zuc.specs.Reading.{stateOf}
+use Rattle.registers.specs.Stored.{Stored, packed, storedOf, taggingOf}
+use Rattle.registers.specs.Tagging.{Tagging, begun-EIA3, closed-EIA3}
+use Rattle.registers.proofs.Packed.{at-packed, good-EIA3, held-as}
+use Rattle.mac.proofs.tag_from.Statement.{statement}
+use Rattle.mac.proofs.tag_from.Tie as tie
+
+fits : (s : tie.After-bits-fit) (t : s .bits-fit .result ≡ true) → leb (s .before .before .before .before .before .args .l) (length (now (s .before .before .before .before .before .args .message)) * 8) ≡ true
+fits s t = sym (s .bits-fit .ensures) ∙ t
+
+returns : tie.Need-returns
+returns c =
+    let f = c .before in
+    let m = f .before in
+    rw (ap startNumber (m .enum-told .given .1), sym (f .bits-fit .ensures) ∙ not-true (f .bits-fit .result) (c .if1 .taken)) refl
+
+begin-128-requires : tie.Need-begin-128-requires
+unfolding S₀-table S₁-table
+begin-128-requires c κs =
+    let m = c .before .before .before .before in
+    let s = m .before .before .before .before in
+    (refl, (refl, s .pre .0 (ap startNumber (m .enum-told .given .1))))
+
+close-128-requires : tie.Need-close-128-requires
+unfolding S₀-table S₁-table packed
+close-128-requires c κs =
+    let b = c .before .before in
+    let i = b .before .before .before in
+    let f = i .before in
+    let m = f .before in
+    let s = m .before .before .before .before in (
+      refl,
+      (
+        refl,
+        (
+          held-as (b .begin-128 .ensures) (good-EIA3 (stateOf (s .args .start .state)) (s .pre .0 (ap startNumber (m .enum-told .given .1)))),
+          (
+            ap (λ (x : Stored). x .width) (b .begin-128 .ensures),
+            leb-true (s .args .l) (length (now (s .args .message)) * 8) (fits f (not-false (f .bits-fit .result) (i .if1 .left))),
+          ),
+        ),
+      ),
+    )
+
+returns-2 : tie.Need-returns-2
+returns-2 c =
+    let b = c .before .before .before in
+    let i = b .before .before .before in
+    let f = i .before in
+    let m = f .before in
+    let s = m .before .before .before .before in
+    let a = s .args in
+    rw (ap startNumber (m .enum-told .given .1), fits f (not-false (f .bits-fit .result) (i .if1 .left)))
+    (ap (λ (x : ℕ). record { number = 0; tag = x })
+    (c .close-128 .ensures
+    ∙ at-packed (λ w st. closed-EIA3 st (now (a .message)) (a .l)) (b .begin-128 .ensures)
+    (good-EIA3 (stateOf (a .start .state)) (s .pre .0 (ap startNumber (m .enum-told .given .1))))))
+
+returns-3 : tie.Need-returns-3
+returns-3 c =
+    let s = c .before .before .before .before in
+    absurd (s .pre .1 (ap startNumber (c .enum-told2 .given .1)))
+
+returns-4 : tie.Need-returns-4
+returns-4 c = rw (ap startNumber (c .enum-told3 .given .1)) refl
+
+returns-5 : tie.Need-returns-5
+returns-5 c = rw (ap startNumber (c .enum-told4 .given .1)) refl
+
+pub tag-from-spec : {M : Type 1} → statement M
+tag-from-spec =
+    tie.close
+    (tie.spec
+    (λ c. search needs)
+    (λ c κs. search needs)
+    returns
+    begin-128-requires
+    close-128-requires
+    (λ c. search needs)
+    (λ c. search needs)
+    (λ c. search needs)
+    returns-2
+    returns-3
+    returns-4
+    returns-5)

@@ -1,0 +1,25 @@
+-- `mac::zuc128::new` meets its contract: the keystream's start, and a tag state from it.
+use mathlib.Core.Path.{_∙_, ap, subst, sym}
+use native.Mathlib.Omega.{arith}
+use borrow.Author.Needs.{needs}
+use denote.Ref.{now}
+use Rattle.keystream.specs.Starts.{StartOutcome}
+use Rattle.mac.specs.Calls.{Ready, begun-128, startOutcome-128}
+use Rattle.mac.proofs.Loaded.{ready-128}
+use Rattle.mac.proofs.zuc128.new.Statement.{statement}
+use Rattle.mac.proofs.zuc128.new.Tie as tie
+
+begin-from-requires : tie.Need-begin-from-requires
+begin-from-requires c κs =
+    let v = c .before in
+    let k = v .before in
+    let a = k .before .args in
+    subst Ready (sym (c .new .ensures))
+    (ready-128 (now (a .key)) (now (a .iv)) (λ i. omega (arith, k .shared-slice-known .given i)) (λ i. omega (arith, v .shared-slice-known2 .given i)))
+
+returns : tie.Need-returns
+unfolding startOutcome-128
+returns c = c .begin-from .ensures ∙ ap begun-128 (c .before .new .ensures)
+
+pub new-spec : {M : Type 1} → statement M
+new-spec = tie.close (tie.spec (λ c κs. search needs) begin-from-requires returns)

@@ -1,0 +1,136 @@
+-- `mac::zuc256::compute` meets its contract: each answer of the keystream's start keeps its number; else the standard's tag.
+use mathlib.Core.Bool.{true}
+use mathlib.Core.List.{List, [], _∷_}
+use mathlib.Core.Path.{_≡_, refl, sym, ap, _∙_, subst}
+use Prim.Native.Nat.{ℕ, suc, _*_}
+use native.Mathlib.Omega.{arith}
+use lib.Dec.{leb}
+use lib.ListN.{length}
+use borrow.Author.Needs.{needs}
+use borrow.Author.Tests.{leb-true, not-false, not-true}
+use denote.Ref.{now}
+use Rattle.standard.specs.Boxes.{S₀-table, S₁-table}
+use Rattle.standard.specs.Generator.{Cells}
+use Rattle.zuc.specs.Reading.{stateOf}
+use Rattle.keystream.specs.Starts.{StartOutcome, startNumber, startTag₂₅₆, startTold}
+use Rattle.registers.specs.Stored.{Width, tagWords}
+use Rattle.registers.specs.Tagging.{closed-ZUC256}
+use Rattle.registers.proofs.Packed.{at-packed, good-ZUC256, held-as}
+use Rattle.mac.specs.Calls.{Ready, once-from-256, onceOutcome-256}
+use Rattle.mac.proofs.Loaded.{accepted-width, ready-256}
+use Rattle.mac.proofs.Outcomes.{once-256-is, spelled-tag}
+use Rattle.mac.proofs.zuc256.compute.Statement.{statement}
+use Rattle.mac.proofs.zuc256.compute.Tie as tie
+
+tag-length : (d : tie.After-close-256) → length (d .close-256 .result) ≡ 2
+tag-length d = search needs
+
+module _ (n : tie.After-new-with-d) (e : startTold (n .new-with-d .result) .number ≡ 0) where
+  width : Width (n .before .before .before .before .args .width)
+  width =
+      let a = n .before .before .before .before .args in
+      accepted-width (a .width) (now (a .key)) (now (a .iv)) (ap (λ (o : StartOutcome). o .number) (sym (n .new-with-d .ensures)) ∙ e)
+
+  sound : Cells (stateOf (n .new-with-d .result .state) .cells)
+  sound =
+      let v = n .before .before in
+      let k = v .before in
+      let a = k .before .args in
+      subst Ready (sym (n .new-with-d .ensures))
+      (ready-256 (a .width) (now (a .key)) (now (a .iv)) (λ i. omega (arith, k .shared-slice-known .given i)) (λ i. omega (arith, v .shared-slice-known2 .given i))) e
+
+-- the outcome, told of the keystream's start
+told : (n : tie.After-new-with-d)
+    → once-from-256 (n .before .before .before .before .args .width) (startTold (n .new-with-d .result)) (now (n .before .before .before .before .args .message)) (n .before .before .before .before .args .l)
+    ≡ onceOutcome-256 (n .before .before .before .before .args .width) (now (n .before .before .before .before .args .key)) (now (n .before .before .before .before .args .iv)) (now (n .before .before .before .before .args .message)) (n .before .before .before .before .args .l)
+told n =
+    let a = n .before .before .before .before .args in
+    ap (λ (o : StartOutcome). once-from-256 (a .width) o (now (a .message)) (a .l)) (n .new-with-d .ensures)
+    ∙ once-256-is (a .width) (now (a .key)) (now (a .iv)) (now (a .message)) (a .l)
+
+returns : tie.Need-returns
+returns c =
+    let f = c .before in
+    let m = f .before in
+    let n = m .before .before .before in
+    sym (rw (ap startNumber (m .enum-told .given .1), sym (f .bits-fit .ensures) ∙ not-true (f .bits-fit .result) (c .if1 .taken)) refl) ∙ told n
+
+begin-256-requires : tie.Need-begin-256-requires
+unfolding S₀-table S₁-table
+begin-256-requires c κs =
+    let m = c .before .before .before .before in
+    let n = m .before .before .before in
+    let e = ap startNumber (m .enum-told .given .1) in
+    (refl, (refl, (sound n e, width n e)))
+
+close-256-requires : tie.Need-close-256-requires
+unfolding S₀-table S₁-table
+close-256-requires c κs =
+    let b = c .before .before in
+    let i = b .before .before .before in
+    let f = i .before in
+    let m = f .before in
+    let n = m .before .before .before in
+    let a = n .before .before .before .before .args in
+    let e = ap startNumber (m .enum-told .given .1) in (
+      refl,
+      (
+        refl,
+        (
+          held-as (b .begin-256 .ensures) (good-ZUC256 (width n e) (stateOf (n .new-with-d .result .state)) (sound n e)),
+          leb-true (a .l) (length (now (a .message)) * 8) (sym (f .bits-fit .ensures) ∙ not-false (f .bits-fit .result) (i .if1 .left)),
+        ),
+      ),
+    )
+
+returns-2 : tie.Need-returns-2
+returns-2 c =
+    let b = c .before .before .before in
+    let i = b .before .before .before in
+    let f = i .before in
+    let m = f .before in
+    let n = m .before .before .before in
+    let a = n .before .before .before .before .args in
+    let e = ap startNumber (m .enum-told .given .1) in
+    sym (rw (e, sym (f .bits-fit .ensures) ∙ not-false (f .bits-fit .result) (i .if1 .left))
+    (ap (λ (x : List ℕ). record { number = 0; tag = x })
+    (sym (spelled-tag (c .close-256 .result) (tag-length c)
+    ∙ c .close-256 .ensures
+    ∙ at-packed (λ w st. tagWords w (closed-ZUC256 (w * 8) st (now (a .message)) (a .l))) (b .begin-256 .ensures)
+    (good-ZUC256 (width n e) (stateOf (n .new-with-d .result .state)) (sound n e))))))
+    ∙ told n
+
+returns-3 : tie.Need-returns-3
+returns-3 c =
+    let n = c .before .before .before in
+    sym (rw (ap startNumber (c .enum-told2 .given .1)) refl) ∙ told n
+
+returns-4 : tie.Need-returns-4
+returns-4 c =
+    let n = c .before .before .before in
+    sym (rw (ap startNumber (c .enum-told3 .given .1)) refl) ∙ told n
+
+returns-5 : tie.Need-returns-5
+returns-5 c =
+    let n = c .before .before .before in
+    sym (rw (ap startNumber (c .enum-told4 .given .1)) refl) ∙ told n
+
+pub compute-spec : {M : Type 1} → statement M
+compute-spec =
+    tie.close
+    (tie.spec
+    (λ c κs. search needs)
+    (λ c. search needs)
+    (λ c κs. search needs)
+    returns
+    begin-256-requires
+    close-256-requires
+    (λ c. search needs)
+    (λ c. search needs)
+    (λ c. search needs)
+    (λ c. search needs)
+    (λ c. search needs)
+    returns-2
+    returns-3
+    returns-4
+    returns-5)

@@ -1,0 +1,97 @@
+-- `mac::zuc256::new` meets its contract: each answer of the keystream's start keeps its number; else a tag state of the width.
+use mathlib.Core.Path.{_≡_, refl, sym, ap, _∙_, subst}
+use Prim.Native.Nat.{ℕ}
+use native.Mathlib.Omega.{arith}
+use borrow.Author.Needs.{needs}
+use denote.Ref.{now}
+use Rattle.standard.specs.Boxes.{S₀-table, S₁-table}
+use Rattle.keystream.specs.declared.StartAnswer.{StartAnswer}
+use Rattle.keystream.specs.Starts.{StartOutcome, startNumber, startTag₂₅₆, startTold}
+use Rattle.registers.specs.Stored.{storedOf}
+use Rattle.mac.specs.Calls.{Ready, begun-256, startOutcome-256}
+use Rattle.mac.proofs.Loaded.{accepted-width, ready-256}
+use Rattle.mac.proofs.Outcomes.{refused-256, started-256}
+use Rattle.mac.proofs.zuc256.new.Statement.{statement}
+use Rattle.mac.proofs.zuc256.new.Tie as tie
+
+-- the start was accepted
+zero-number : (n : tie.After-new-with-d) → startTold (n .new-with-d .result) .number ≡ 0
+    → startTag₂₅₆ (n .before .before .before .args .width) (now (n .before .before .before .args .key)) (now (n .before .before .before .args .iv)) .number ≡ 0
+zero-number n e = ap (λ (o : StartOutcome). o .number) (sym (n .new-with-d .ensures)) ∙ e
+
+begin-256-requires : tie.Need-begin-256-requires
+unfolding S₀-table S₁-table
+begin-256-requires c κs =
+    let m = c .before .before in
+    let n = m .before .before .before in
+    let v = n .before in
+    let k = v .before in
+    let a = k .before .args in
+    let e = ap startNumber (m .enum-told .given .1) in (
+      refl,
+      (
+        refl,
+        (
+          subst Ready (sym (n .new-with-d .ensures))
+              (ready-256 (a .width) (now (a .key)) (now (a .iv)) (λ i. omega (arith, k .shared-slice-known .given i)) (λ i. omega (arith, v .shared-slice-known2 .given i))) e,
+          accepted-width (a .width) (now (a .key)) (now (a .iv)) (zero-number n e),
+        ),
+      ),
+    )
+
+returns : tie.Need-returns
+unfolding startOutcome-256
+returns c =
+    let m = c .before .before .before in
+    let n = m .before .before .before in
+    let a = n .before .before .before .args in
+    started-256 (startTold (n .new-with-d .result)) (storedOf (c .begin-256 .result)) (a .width) (ap startNumber (m .enum-told .given .1)) (c .begin-256 .ensures)
+    ∙ ap (begun-256 (a .width)) (n .new-with-d .ensures)
+
+returns-2 : tie.Need-returns-2
+unfolding startOutcome-256
+returns-2 c =
+    let m = c .before in
+    let n = m .before .before .before in
+    let a = n .before .before .before .args in
+    ap (λ (x : StartAnswer). record { number = startNumber x; state = storedOf (c .refused .result .mac .state) }) (c .refused .ensures .0)
+    ∙ refused-256 (startTold (n .new-with-d .result)) (storedOf (c .refused .result .mac .state)) (a .width) 0 (ap startNumber (m .enum-told2 .given .1)) (c .refused .ensures .1)
+    ∙ ap (begun-256 (a .width)) (n .new-with-d .ensures)
+
+returns-3 : tie.Need-returns-3
+unfolding startOutcome-256
+returns-3 c =
+    let m = c .before in
+    let n = m .before .before .before in
+    let a = n .before .before .before .args in
+    ap (λ (x : StartAnswer). record { number = startNumber x; state = storedOf (c .refused2 .result .mac .state) }) (c .refused2 .ensures .0)
+    ∙ refused-256 (startTold (n .new-with-d .result)) (storedOf (c .refused2 .result .mac .state)) (a .width) 1 (ap startNumber (m .enum-told3 .given .1)) (c .refused2 .ensures .1)
+    ∙ ap (begun-256 (a .width)) (n .new-with-d .ensures)
+
+returns-4 : tie.Need-returns-4
+unfolding startOutcome-256
+returns-4 c =
+    let m = c .before in
+    let n = m .before .before .before in
+    let a = n .before .before .before .args in
+    ap (λ (x : StartAnswer). record { number = startNumber x; state = storedOf (c .refused3 .result .mac .state) }) (c .refused3 .ensures .0)
+    ∙ refused-256 (startTold (n .new-with-d .result)) (storedOf (c .refused3 .result .mac .state)) (a .width) 2 (ap startNumber (m .enum-told4 .given .1)) (c .refused3 .ensures .1)
+    ∙ ap (begun-256 (a .width)) (n .new-with-d .ensures)
+
+pub new-spec : {M : Type 1} → statement M
+new-spec =
+    tie.close
+    (tie.spec
+    (λ c κs. search needs)
+    (λ c. search needs)
+    begin-256-requires
+    (λ c. search needs)
+    (λ c κs. search needs)
+    (λ c. search needs)
+    (λ c κs. search needs)
+    (λ c. search needs)
+    (λ c κs. search needs)
+    returns
+    returns-2
+    returns-3
+    returns-4)

@@ -1,0 +1,62 @@
+// 128-EIA3: the IV, the start and the one-shot. The rest is ZUC-128's.
+ghost use mathlib.Core.Path.{_≡_};
+ghost use Rattle.mac.specs.Calls.{onceOutcome-EIA3, onceTold-128, startOutcome-EIA3, startTold-128};
+ghost use Rattle.standard.specs.Integrity.{IV-EIA3};
+use super::Once128;
+use super::Start128;
+use super::begin_from;
+use super::tag_from;
+use words::byte_of;
+
+// The IV. A bearer keeps its low 5 bits, a direction its low bit.
+fn iv(count: u32, bearer: u8, direction: u8) -> [u8; 16]
+    ensures { λ r. ⌜ r ≡ IV-EIA3 count bearer direction ⌝ }
+{
+    let c0 = byte_of(count, 0);
+    let c1 = byte_of(count, 1);
+    let c2 = byte_of(count, 2);
+    let c3 = byte_of(count, 3);
+    let b = bearer % 32 * 8;
+    let d = direction % 2 * 128;
+    [
+        c0,
+        c1,
+        c2,
+        c3,
+        b,
+        0,
+        0,
+        0,
+        c0 ^ d,
+        c1,
+        c2,
+        c3,
+        b,
+        0,
+        0 ^ d,
+        0,
+    ]
+}
+
+// A tag state, or refusal 2 for a key that is not 16 bytes.
+pub fn new(count: u32, bearer: u8, direction: u8, key: &[u8]) -> Start128
+    ensures { λ r. ⌜ startTold-128 r ≡ startOutcome-EIA3 count bearer direction (now (key .entry)) ⌝ }
+{
+    let v = iv(count, bearer, direction);
+    begin_from(keystream::zuc128::new(key, &v))
+}
+
+// A whole message at once: refusal 2 or 5, lowest first.
+pub fn compute(
+    count: u32,
+    bearer: u8,
+    direction: u8,
+    key: &[u8],
+    message: &[u8],
+    l: usize,
+) -> Once128
+    ensures { λ r. ⌜ onceTold-128 r ≡ onceOutcome-EIA3 count bearer direction (now (key .entry)) (now (message .entry)) l ⌝ }
+{
+    let v = iv(count, bearer, direction);
+    tag_from(keystream::zuc128::new(key, &v), message, l)
+}

@@ -1,0 +1,75 @@
+// ZUC-128 tags. An EIA3 tag is updated and closed by the same calls.
+ghost use mathlib.Core.Path.{_≡_};
+ghost use Rattle.mac.specs.Calls.{finishOutcome-128, finishTold-128, formed-128, onceOutcome-128, onceTold-128, startOutcome-128, startTold-128, updateOutcome, updateTold-128};
+ghost use Rattle.registers.specs.Stored.{storedOf};
+use super::Finish128;
+use super::Mac128;
+use super::Once128;
+use super::Start128;
+use super::Tag128;
+use super::Update128;
+use super::begin_from;
+use super::is_formed_128;
+use super::tag_from;
+use super::update_state;
+use registers::closing::close_128;
+use registers::forms::zero_state;
+use words::bits_fit;
+use zuc::boxes::S0;
+use zuc::boxes::S1;
+
+// A tag state, or refusal 2 for a key and 3 for an IV that is not 16 bytes.
+pub fn new(key: &[u8], iv: &[u8]) -> Start128
+    ensures { λ r. ⌜ startTold-128 r ≡ startOutcome-128 (now (key .entry)) (now (iv .entry)) ⌝ }
+{
+    begin_from(keystream::zuc128::new(key, iv))
+}
+
+// The state after more bytes of the message, or refusal 4.
+pub fn update(mac: Mac128, message: &[u8]) -> Update128
+    ensures { λ r. ⌜ updateTold-128 r ≡ updateOutcome (formed-128 (storedOf (mac .state))) (storedOf (mac .state)) (now (message .entry)) ⌝ }
+{
+    let s = mac.state;
+    let ok = is_formed_128(s);
+    let r = update_state(ok, s, message);
+    let answer = r.answer;
+    let state = r.state;
+    Update128 {
+        answer,
+        mac: Mac128 { state },
+    }
+}
+
+// The tag, of l bits more; or refusal 4, or 5 for more bits than are lent, before anything moves.
+pub fn finish(mac: Mac128, tail: &[u8], l: usize) -> Finish128
+    ensures { λ r. ⌜ finishTold-128 r ≡ finishOutcome-128 (storedOf (mac .state)) (now (tail .entry)) l ⌝ }
+{
+    let s = mac.state;
+    if !is_formed_128(s) {
+        return Finish128 {
+            answer: Tag128::BadState,
+            mac,
+        };
+    }
+    if !bits_fit(l, tail.len()) {
+        return Finish128 {
+            answer: Tag128::TooLong,
+            mac,
+        };
+    }
+    let t0 = S0;
+    let t1 = S1;
+    let tag = close_128(&t0, &t1, s, tail, l);
+    let state = zero_state();
+    Finish128 {
+        answer: Tag128::Tag(tag),
+        mac: Mac128 { state },
+    }
+}
+
+// A whole message at once: refusal 2, 3 or 5, lowest first.
+pub fn compute(key: &[u8], iv: &[u8], message: &[u8], l: usize) -> Once128
+    ensures { λ r. ⌜ onceTold-128 r ≡ onceOutcome-128 (now (key .entry)) (now (iv .entry)) (now (message .entry)) l ⌝ }
+{
+    tag_from(keystream::zuc128::new(key, iv), message, l)
+}

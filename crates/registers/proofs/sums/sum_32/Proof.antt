@@ -1,0 +1,18 @@
+-- `registers::sums::sum_32` meets its contract: look-ups in the pair's table give the sum.
+use mathlib.Core.Path.{ap, _∙_}
+use mathlib.Core.List.{List}
+use Prim.Native.Nat.{ℕ}
+use borrow.Author.Needs.{needs}
+use Rattle.registers.specs.Lookup.{lookedUp}
+use Rattle.registers.proofs.Lookup.{looked-is}
+use Rattle.registers.proofs.sums.sum_32.Statement.{statement}
+use Rattle.registers.proofs.sums.sum_32.Tie as tie
+
+returns : tie.Need-returns
+returns c =
+    let m = c .before .before in
+    let a = m .before .args in
+    c .look-up .ensures ∙ ap (λ (x : List ℕ). lookedUp x (a .bits) 8) (m .multiples .ensures) ∙ looked-is (a .key) (a .bits)
+
+pub sum-32-spec : {M : Type 1} → statement M
+sum-32-spec = tie.close (tie.spec (λ c κs. search needs) (λ c κs. search needs) returns)
