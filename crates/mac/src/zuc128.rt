@@ -60,10 +60,10 @@ pub fn finish(mac: Mac128, tail: &[u8], l: usize) -> Finish128
     let t0 = S0;
     let t1 = S1;
     let tag = close_128(&t0, &t1, s, tail, l);
-    let state = zero_state();
+    let zero = zero_state();
     Finish128 {
         answer: Tag128::Tag(tag),
-        mac: Mac128 { state },
+        mac: Mac128 { state: zero },
     }
 }
 

@@ -87,10 +87,10 @@ pub fn finish(mac: Mac256, tail: &[u8], l: usize) -> Finish256
     let t0 = S0;
     let t1 = S1;
     let tag = close_256(&t0, &t1, s, tail, l);
-    let state = zero_state();
+    let zero = zero_state();
     Finish256 {
         answer: Tag256::Tag(tag[0], tag[1]),
-        mac: Mac256 { state },
+        mac: Mac256 { state: zero },
     }
 }
 

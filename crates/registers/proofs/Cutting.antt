@@ -1,10 +1,10 @@
 -- Updates: cutting does not matter, a byte waits or completes a block, a whole block is one feed; by induction on the bytes.
-use mathlib.Core.Path.{_≡_, refl, sym, ap, _∙_}
+use mathlib.Core.Path.{_≡_, refl, sym, ap, ap₂, _∙_}
 use mathlib.Core.List.{List, [], _∷_, _++_}
 use Prim.Native.Nat.{ℕ, suc, _+_, _*_, _-_, _<_, _≤_}
 use native.Mathlib.Omega.{arith}
 use lib.ListN.{drop, length, length-append, take}
-use lib.Seq.{append-snoc, take-add}
+use lib.Seq.{append-snoc, drop-drop, take-add}
 use borrow.Author.Tests.{le-ltb, lt-ltb}
 use Rattle.registers.specs.Tagging.{Tagging, absorbed, fed, updated}
 
@@ -23,6 +23,22 @@ updated-on t st m i at h =
   where
     e : i + (at - i) ≡ at
     e = omega arith
+
+-- the same from a place on
+pub updated-from : (t : ℕ) (st : Tagging) (m : List ℕ) (from i at : ℕ) → from ≤ i → i ≤ at
+    → updated t (updated t st (take (i - from) (drop from m))) (take (at - i) (drop i m)) ≡ updated t st (take (at - from) (drop from m))
+updated-from t st m from i at h k =
+    ap₂ (λ (n : ℕ) (l : List ℕ). updated t (updated t st (take (i - from) (drop from m))) (take n l)) more (sym rest)
+    ∙ updated-on t st (drop from m) (i - from) (at - from) (omega arith)
+  where
+    more : at - i ≡ at - from - (i - from)
+    more = omega arith
+
+    place : from + (i - from) ≡ i
+    place = omega arith
+
+    rest : drop (i - from) (drop from m) ≡ drop i m
+    rest = drop-drop (i - from) from m ∙ ap (λ (n : ℕ). drop n m) place
 
 pub absorbed-waits : (t : ℕ) (st : Tagging) (b : ℕ) → suc (length (st .waiting)) * 8 < t
     → absorbed t st b ≡ record { generator = st .generator; key = st .key; tag = st .tag; waiting = st .waiting ++ (b ∷ []) }

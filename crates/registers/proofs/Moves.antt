@@ -2,18 +2,18 @@
 use mathlib.Core.Path.{_≡_, refl, sym, ap, ap₂, _∙_}
 use mathlib.Core.List.{List, [], _∷_, _++_, append-nil}
 use mathlib.Core.Logic.{⊎-elim}
-use Prim.Native.Nat.{ℕ, suc, _+_, _-_, _*_, _/_, _%_, _^_, _<_, _≤_}
+use Prim.Native.Nat.{ℕ, zero, suc, _+_, _-_, _*_, _/_, _%_, _^_, _<_, _≤_}
 use native.Mathlib.Omega.{arith}
-use native.Mathlib.Nat.{mod-eq-of-lt, zero-add, zero-mod, zero-mul}
+use native.Mathlib.Nat.{mod-eq-of-lt, suc-mul, zero-add, zero-mod, zero-mul}
 use lib.ListN.{drop, getD, length, length-append, replicate, set, take}
-use lib.Seq.{append-snoc, drop-cons, set-at, take-at}
+use lib.Seq.{append-snoc, drop-cons, set-at, take-all, take-at}
 use Rattle.standard.specs.Notation.{_⊕_}
 use Rattle.standard.specs.Bits.{M, bitOf, window, z}
 use Rattle.standard.specs.Generator.{State, after, wordAt}
 use Rattle.standard.specs.Integrity.{T}
 use Rattle.standard.proofs.Generator.{after-after}
 use Rattle.standard.proofs.Window.{window-ext, window-lt, window-split}
-use Rattle.registers.specs.Stored.{Good, Held, Stored, Width, Words, fresh, keyOf, keyWords, packed, tagOf, tagWords, taggingOf}
+use Rattle.registers.specs.Stored.{Blocks, Good, Held, Stored, Width, Words, fresh, keyOf, keyWords, packed, tagOf, tagWords, taggingOf}
 use Rattle.registers.specs.Tagging.{Tagging, absorbed, begun, begun-EIA3, begun-ZUC256, fed, updated}
 use Rattle.registers.proofs.Cutting.{absorbed-fills, absorbed-waits, updated-block}
 use Rattle.registers.proofs.Followed.{moved-up}
@@ -185,16 +185,31 @@ module _ (s : Stored) (h : Held s) where
       longer : length (taggingOf s .waiting ++ (b ∷ [])) ≡ s .cnt + 1
       longer = length-append (taggingOf s .waiting) (b ∷ []) ∙ ap (λ (n : ℕ). n + 1) cnt-is
 
-  pub fills-is : (b : ℕ) → s .width ≤ s .cnt + 1
-      → packed (s .width) (fed (s .width * 8) (taggingOf s) (take (s .width) (set (s .rem) (s .cnt) b))) ≡ packed (s .width) (absorbed (s .width * 8) (taggingOf s) b)
-  fills-is b l =
-      ap (λ (m : List ℕ). packed (s .width) (fed (s .width * 8) (taggingOf s) m))
-      (ap (take (s .width)) (rem-next b ∙ sym (append-snoc (taggingOf s .waiting) b (replicate (16 - suc (s .cnt)) 0)))
-      ∙ take-at (taggingOf s .waiting ++ (b ∷ [])) (replicate (16 - suc (s .cnt)) 0) (s .width) full)
-      ∙ ap (packed (s .width)) (sym (absorbed-fills (s .width * 8) (taggingOf s) b (omega (arith, cnt-is))))
-    where
-      full : length (taggingOf s .waiting ++ (b ∷ [])) ≡ s .width
-      full = omega (arith, length-append (taggingOf s .waiting) (b ∷ []), cnt-is, cnt-lt)
+  -- with nothing waiting it is held too
+  abbrev emptied : Stored
+  emptied = record { generator = s .generator; key = s .key; tag = s .tag; rem = replicate 16 0; cnt = 0; width = s .width }
+
+  pub emptied-held : Held emptied
+  unfolding packed taggingOf
+  emptied-held =
+      record {
+        good =
+            record {
+              a-width = h .good .a-width;
+              sound = h .good .sound;
+              tag-lt = h .good .tag-lt;
+              short = omega (arith, cnt-lt);
+            };
+        packs =
+            λ i. record {
+              generator = s .generator;
+              key = ap (λ (x : Stored). x .key) (h .packs) i;
+              tag = ap (λ (x : Stored). x .tag) (h .packs) i;
+              rem = replicate 16 0;
+              cnt = 0;
+              width = s .width;
+            };
+      }
 
   -- a turn: a whole block where nothing waits, or a byte
   pub block-is : (m : List ℕ) → s .cnt ≡ 0 → length m ≡ s .width
@@ -212,3 +227,39 @@ module _ (s : Stored) (h : Held s) where
     where
       e : i + 1 - i ≡ 1
       e = omega arith
+
+-- the byte that fills a block: one block, with nothing waiting before it
+one-count : (n w at : ℕ) → 0 < w → at ≡ 0 + n * w → at ≤ w → w < at + w → at ≡ w
+one-count zero w at p e le lt = absurd (omega (arith, zero-mul w))
+one-count (suc zero) w at p e le lt = omega (arith, suc-mul 0 w, zero-mul w)
+one-count (suc (suc n)) w at p e le lt = absurd (omega (arith, suc-mul (suc n) w, suc-mul n w))
+
+pub one-block-is : (s : Stored) (h : Held s) (b : ℕ) → length (s .rem) ≡ 16 → s .width ≤ s .cnt + 1 → (r : Stored) (at : ℕ)
+    → Blocks (emptied s h) (take (s .width) (set (s .rem) (s .cnt) b)) 0 r at → r ≡ packed (s .width) (absorbed (s .width * 8) (taggingOf s) b)
+unfolding fed taggingOf
+one-block-is s h b len l r at k =
+    k .held
+    ∙ ap (λ (x : List ℕ). packed w (updated (w * 8) (taggingOf (emptied s h)) x)) (ap (λ (n : ℕ). take n block) whole ∙ take-all w block (omega (arith, full)))
+    ∙ sym (block-is (emptied s h) (emptied-held s h) block refl full)
+    ∙ ap (λ (m : List ℕ). packed w (fed (w * 8) (taggingOf s) m)) filled
+    ∙ ap (packed w) (sym (absorbed-fills (w * 8) (taggingOf s) b (omega (arith, cnt-is s h))))
+  where
+    w : ℕ
+    w = s .width
+
+    block : List ℕ
+    block = take w (set (s .rem) (s .cnt) b)
+
+    waiting : List ℕ
+    waiting = taggingOf s .waiting
+
+    filled : block ≡ waiting ++ (b ∷ [])
+    filled =
+        ap (take w) (rem-next s h b ∙ sym (append-snoc waiting b (replicate (16 - suc (s .cnt)) 0)))
+        ∙ take-at (waiting ++ (b ∷ [])) (replicate (16 - suc (s .cnt)) 0) w (omega (arith, length-append waiting (b ∷ []), cnt-is s h, cnt-lt s h))
+
+    full : length block ≡ w
+    full = ap length filled ∙ omega (arith, length-append waiting (b ∷ []), cnt-is s h, cnt-lt s h)
+
+    whole : at - 0 ≡ w
+    whole = omega (arith, one-count (k .count) w at (omega (arith, cnt-lt s h)) (k .at-is) (omega (arith, k .within, full)) (omega (arith, k .all, full)))

@@ -1,13 +1,13 @@
 -- Each width's words: the key pair moved on, the tag with a block's sum, and fresh words, as the code has them and as numbers.
-use mathlib.Core.Path.{_≡_, refl, sym, ap, ap₂, _∙_}
+use mathlib.Core.Path.{_≡_, refl, sym, ap, ap₂, _∙_, subst}
 use mathlib.Core.List.{List, [], _∷_}
 use mathlib.Core.Logic.{⊎-elim}
-use Prim.Native.Nat.{ℕ, _+_, _*_, _/_, _%_, _^_, _<_}
+use Prim.Native.Nat.{ℕ, _+_, _*_, _/_, _%_, _^_, _<_, _≤_}
 use native.Mathlib.Omega.{arith}
-use native.Mathlib.Nat.{add-zero, zero-add}
+use native.Mathlib.Nat.{lt-of-lt-of-le, mod-eq-of-lt, pow-le-pow-right, zero-add}
 use lib.Arith.{digits-lt}
 use lib.Bits.{bitXor, xor-block, xor-lt}
-use lib.Pow.{high, low}
+use lib.Pow.{high, low, shr-lt}
 use Rattle.standard.specs.Notation.{_⊕_}
 use Rattle.standard.specs.Bits.{M, bitOf, window, z}
 use Rattle.standard.specs.Generator.{State, _⟨_⟩, after, next, word, wordAt}
@@ -17,7 +17,8 @@ use Rattle.standard.proofs.Generator.{after-after, after-more, after-none, word
 use Rattle.standard.proofs.Linear.{M-lt}
 use Rattle.standard.proofs.Sum.{sum-ext}
 use Rattle.standard.proofs.Window.{bit-window, window-cell, window-cells, window-lt, window-split}
-use Rattle.registers.specs.Lookup.{summed}
+use borrow.Author.Tests.{ne-eqb}
+use Rattle.registers.specs.Lookup.{between, summed}
 use Rattle.registers.specs.Stored.{Width, Words, _‖₁₂₈_, _‖₆₄_, fresh, keyOf, keyWords, tagOf, tagWords}
 use Rattle.registers.proofs.Followed.{moved-up}
 use Rattle.registers.proofs.Message.{window-after, z-lt}
@@ -100,55 +101,80 @@ module _ (w : ℕ) (k t block : List ℕ) where
       key : ℕ
       key = (k ⟨ 0 ⟩ ‖₆₄ k ⟨ 1 ⟩) ‖₁₂₈ (k ⟨ 2 ⟩ ‖₆₄ k ⟨ 3 ⟩)
 
--- fresh words
-first-word : (σ : State) → word σ ≡ wordAt σ 0
-first-word σ = ap word (sym (after-none σ)) ∙ word-after 0 σ
-
-first-state : (σ : State) → next σ ≡ after 1 σ
-first-state σ = ap next (sym (after-none σ)) ∙ sym (after-more 0 σ)
-
-pub fresh-4 : (w : ℕ) → w ≡ 4 → (σ : State) → record { words = word σ ∷ 0 ∷ []; state = next σ } ≡ fresh w σ
-unfolding fresh tagWords
-fresh-4 w e σ =
-    rw e (λ i. record { words = (first-word σ ∙ sym (window-word (wordAt σ) 0 (wordAt-lt σ 0))) i ∷ 0 ∷ []; state = first-state σ i })
-
-two-words : (σ : State) → window (z (wordAt σ)) 0 64 ≡ wordAt σ 0 * 2 ^ 32 + wordAt σ 1
-two-words σ =
-    window-split (z (wordAt σ)) 0 32 32
-    ∙ ap₂ (λ (x y : ℕ). x * 2 ^ 32 + y) (window-word (wordAt σ) 0 (wordAt-lt σ 0)) (window-word (wordAt σ) 1 (wordAt-lt σ 1))
-
-pub fresh-8 : (σ : State) → record { words = (word σ * 2 ^ 32 + word (next σ)) ∷ 0 ∷ []; state = next (next σ) } ≡ fresh 8 σ
-unfolding fresh tagWords
-fresh-8 σ =
-    λ i. record {
-      words =
-          (ap₂ (λ (x y : ℕ). x * 2 ^ 32 + y) (first-word σ) (ap word (first-state σ) ∙ word-after 1 σ) ∙ sym (two-words σ)) i ∷ 0 ∷ [];
-      state = (ap next (first-state σ) ∙ sym (after-more 1 σ)) i;
-    }
-
-pub fresh-16 : (w : ℕ) → w ≡ 16 → (σ : State) (a b : Words) → a ≡ fresh 8 σ → b ≡ fresh 8 (a .state)
-    → record { words = a .words ⟨ 0 ⟩ ∷ b .words ⟨ 0 ⟩ ∷ []; state = b .state } ≡ fresh w σ
-unfolding fresh tagWords
-fresh-16 w e σ a b ea eb =
-    rw e
-    (λ i. record {
-      words =
-          (ap₂ (λ (x y : ℕ). x ∷ y ∷ []) (ap (λ (x : Words). x .words ⟨ 0 ⟩) ea) second
-          ∙ sym (ap (tagWords 16) (window-split Z 0 64 64) ∙ tag-words-16 (window Z 0 64) (window Z 64 64) (window-lt Z (z-lt (wordAt σ)) 64 64))) i;
-      state = (ap (λ (x : Words). x .state) eb ∙ ap (after 2) first ∙ after-after 2 2 σ) i;
-    })
+-- a number in two words moved up by 32 bits, and a word after it
+shifted : (a b c : ℕ) → (a ‖₆₄ b) < 2 ^ 96 → b < 2 ^ 64 → between a b ‖₆₄ (b % 2 ^ 32 * 2 ^ 32 + c) ≡ (a ‖₆₄ b) * 2 ^ 32 + c
+shifted a b c small hb =
+    ap (λ (x : ℕ). (x * 2 ^ 32 + b / 2 ^ 32) * 2 ^ 64 + (b % 2 ^ 32 * 2 ^ 32 + c)) (mod-eq-of-lt high-small)
+    ∙ regroup (a * 2 ^ 32 + b / 2 ^ 32) (b % 2 ^ 32) c
+    ∙ ap (λ (x : ℕ). x * 2 ^ 32 + c) whole
   where
-    Z : ℕ → ℕ
-    Z = z (wordAt σ)
+    high-small : a < 2 ^ 32
+    high-small = subst (λ (x : ℕ). x < 2 ^ 32) (high a 64 hb) (shr-lt 32 64 small)
 
-    first : a .state ≡ after 2 σ
-    first = ap (λ (x : Words). x .state) ea
+    whole : (a * 2 ^ 32 + b / 2 ^ 32) * 2 ^ 32 + b % 2 ^ 32 ≡ a ‖₆₄ b
+    whole = omega arith
 
-    second : b .words ⟨ 0 ⟩ ≡ window Z 64 64
-    second =
-        ap (λ (x : Words). x .words ⟨ 0 ⟩) eb
-        ∙ ap (λ (x : State). window (z (wordAt x)) 0 64) first
-        ∙ window-after 64 2 σ
+    regroup : (u v x : ℕ) → u * 2 ^ 64 + (v * 2 ^ 32 + x) ≡ (u * 2 ^ 32 + v) * 2 ^ 32 + x
+    regroup u v x = omega arith
+
+-- fresh words: one more word in a number of 128 bits, and what the first w/4 words make
+module _ (σ : State) where
+  abbrev Z : ℕ → ℕ
+  Z = z (wordAt σ)
+
+  words-small : (hi lo j : ℕ) → hi ‖₆₄ lo ≡ window Z 0 (j * 32) → (hi ‖₆₄ lo) < 2 ^ (j * 32)
+  words-small hi lo j e = rw e (window-lt Z (z-lt (wordAt σ)) 0 (j * 32))
+
+  pub words-none : 0 ‖₆₄ 0 ≡ window Z 0 (0 * 32)
+  unfolding window
+  words-none = refl
+
+  pub words-more : (hi lo w j : ℕ) → j < 4 → lo < 2 ^ 64 → w ≡ wordAt σ j → hi ‖₆₄ lo ≡ window Z 0 (j * 32)
+      → between hi lo ‖₆₄ (lo % 2 ^ 32 * 2 ^ 32 + w) ≡ window Z 0 ((j + 1) * 32)
+  unfolding z
+  words-more hi lo w j h hl ew e =
+      shifted hi lo w (lt-of-lt-of-le (words-small hi lo j e) (pow-le-pow-right {n = 2} (omega arith) most)) hl
+      ∙ ap₂ (λ (x y : ℕ). x * 2 ^ 32 + y) e (ew ∙ ap (wordAt σ) (sym (zero-add j)))
+      ∙ sym (window-cells 32 (omega arith) (wordAt σ) 0 j (wordAt-lt σ (0 + j)))
+      ∙ ap (window Z 0) next
+    where
+      next : j * 32 + 32 ≡ (j + 1) * 32
+      next = omega arith
+
+      most : j * 32 ≤ 96
+      most = omega arith
+
+  module _ (w hi lo : ℕ) (state : State) (es : state ≡ after (w / 4) σ) (e : hi ‖₆₄ lo ≡ window Z 0 (w / 4 * 32)) (hl : lo < 2 ^ 64) where
+    pub fresh-wide : w ≡ 16 → record { words = hi ∷ lo ∷ []; state = state } ≡ fresh w σ
+    unfolding fresh
+    fresh-wide f =
+        λ i. record {
+          words = (sym (tag-words-16 hi lo hl) ∙ ap₂ tagWords (sym f) (e ∙ ap (window Z 0) bits)) i;
+          state = es i;
+        }
+      where
+        bits : w / 4 * 32 ≡ w * 8
+        bits = omega arith
+
+    pub fresh-narrow : Width w → (w ≡ 16 → ⊥) → record { words = lo ∷ 0 ∷ []; state = state } ≡ fresh w σ
+    unfolding fresh tagWords
+    fresh-narrow v not =
+        λ i. record { words = (ap (λ (x : ℕ). x ∷ 0 ∷ []) (low-is ∙ e ∙ ap (window Z 0) bits) ∙ sym spelled) i; state = es i }
+      where
+        at-most : w / 4 * 32 ≤ 64
+        at-most = ⊎-elim (λ f. omega arith) (λ o. ⊎-elim (λ f. omega arith) (λ f. absurd (not f)) o) v
+
+        small : (hi ‖₆₄ lo) < 2 ^ 64
+        small = lt-of-lt-of-le (words-small hi lo (w / 4) e) (pow-le-pow-right {n = 2} (omega arith) at-most)
+
+        spelled : tagWords w (window Z 0 (w * 8)) ≡ window Z 0 (w * 8) ∷ 0 ∷ []
+        spelled = rw (ne-eqb w 16 not) refl
+
+        low-is : lo ≡ hi ‖₆₄ lo
+        low-is = omega (arith, small)
+
+        bits : w / 4 * 32 ≡ w * 8
+        bits = ⊎-elim (λ f. omega arith) (λ o. ⊎-elim (λ f. omega arith) (λ f. omega arith) o) v
 
 -- the third width, where the others are ruled out
 pub is-16 : (w : ℕ) → Width w → (w ≡ 4 → ⊥) → (w ≡ 8 → ⊥) → w ≡ 16

@@ -136,6 +136,14 @@ wordsOf r = record { words = r .words; state = stateOf (r .next) }
 unfoldable pub fresh : ℕ → State → Words
 fresh width σ = record { words = tagWords width (window (z (wordAt σ)) 0 (width * 8)); state = after (width / 4) σ }
 
+-- the bytes from i up to a returned place have been taken in: all that make whole blocks
+pub record Blocks (s : Stored) (message : List ℕ) (i : ℕ) (r : Stored) (at : ℕ) : Type 0 where
+  pub count : ℕ
+  pub at-is : at ≡ i + count * s .width
+  pub within : at ≤ length message
+  pub all : length message < at + s .width
+  pub held : r ≡ packed (s .width) (updated (s .width * 8) (taggingOf s) (take (at - i) (drop i message)))
+
 -- the bytes from i up to a returned place have been taken in, at least one
 pub record Turned (s : Stored) (message : List ℕ) (i : ℕ) (r : Stored) (at : ℕ) : Type 0 where
   pub on : i < at

@@ -9,6 +9,7 @@ ghost use Rattle.standard.specs.Integrity.{T};
 ghost use Rattle.standard.specs.Notation.{_⊕_};
 ghost use Rattle.zuc.specs.Reading.{stateOf};
 ghost use Rattle.registers.specs.Stored.{Width, fresh, keyOf, keyWords, tagOf, tagWords, wordsOf};
+use sums::across;
 use sums::joined;
 use sums::sum_32;
 use sums::sum_64;
@@ -92,46 +93,33 @@ pub fn key_on(width: usize, key: [u64; 4], words: [u64; 2]) -> [u64; 4]
     }
 }
 
-// Two words of the keystream as one of 64 bits.
-pub fn draw_two(t0: &[u8; 256], t1: &[u8; 256], g: Zuc) -> Fresh
-    requires { ⌜ now t0 ≡ S₀-table ⌝ ∗ ⌜ now t1 ≡ S₁-table ⌝ ∗ ⌜ Cells (stateOf g .cells) ⌝ }
-    ensures { λ r. ⌜ wordsOf r ≡ fresh 8 (stateOf g) ⌝ }
-{
-    let a = zuc::draw(t0, t1, g);
-    let middle = a.next;
-    let b = zuc::draw(t0, t1, middle);
-    let next = b.next;
-    Fresh {
-        words: [joined(a.word, b.word), 0],
-        next,
-    }
-}
-
+// The next keystream bits, as many as a tag has. It calls the parts of a draw, which are then inlined in this one loop.
 pub fn draw_words(t0: &[u8; 256], t1: &[u8; 256], width: usize, g: Zuc) -> Fresh
     requires { ⌜ now t0 ≡ S₀-table ⌝ ∗ ⌜ now t1 ≡ S₁-table ⌝ ∗ ⌜ Cells (stateOf g .cells) ⌝ ∗ ⌜ Width width ⌝ }
     ensures { λ r. ⌜ wordsOf r ≡ fresh width (stateOf g) ⌝ }
 {
-    match width {
-        4 => {
-            let d = zuc::draw(t0, t1, g);
-            let next = d.next;
-            Fresh {
-                words: [d.word as u64, 0],
-                next,
-            }
-        }
-        8 => draw_two(t0, t1, g),
-        _ => {
-            let a = draw_two(t0, t1, g);
-            let middle = a.next;
-            let b = draw_two(t0, t1, middle);
-            let next = b.next;
-            let hi = a.words;
-            let lo = b.words;
-            Fresh {
-                words: [hi[0], lo[0]],
-                next,
-            }
-        }
+    let mut z = g;
+    let mut hi: u64 = 0;
+    let mut lo: u64 = 0;
+    let mut j: usize = 0;
+    while j < width / 4 {
+        let moved = zuc::shift(z);
+        let out = zuc::f(t0, t1, moved);
+        let word = out.word ^ zuc::x3(moved);
+        let next = out.next;
+        z = next;
+        hi = across(hi, lo);
+        lo = joined((lo % 0x1_0000_0000) as u32, word);
+        j += 1;
+    }
+    if width == 16 {
+        return Fresh {
+            words: [hi, lo],
+            next: z,
+        };
+    }
+    Fresh {
+        words: [lo, 0],
+        next: z,
     }
 }

@@ -1,11 +1,11 @@
 // Starts and updates.
 ghost use lib.ListN.{length};
 ghost use mathlib.Core.Path.{_≡_};
-ghost use Prim.Native.Nat.{_*_, _<_, _^_};
+ghost use Prim.Native.Nat.{_*_, _<_, _≤_};
 ghost use Rattle.standard.specs.Boxes.{S₀-table, S₁-table};
 ghost use Rattle.standard.specs.Generator.{Cells};
 ghost use Rattle.zuc.specs.Reading.{stateOf};
-ghost use Rattle.registers.specs.Stored.{Held, Turned, Width, packed, storedOf, tagOf, tagWords, taggingOf};
+ghost use Rattle.registers.specs.Stored.{Blocks, Held, Turned, Width, packed, storedOf, tagOf, tagWords, taggingOf};
 ghost use Rattle.registers.specs.Tagging.{absorbed, begun, begun-EIA3, begun-ZUC256, fed, updated};
 use zuc::Zuc;
 
@@ -26,7 +26,7 @@ pub fn begin(t0: &[u8; 256], t1: &[u8; 256], width: usize, tag: [u64; 2], g: Zuc
         g: next,
         key,
         tag,
-        rem: [0u8; 16],
+        rem: [0; 16],
         cnt: 0,
         width,
     }
@@ -73,6 +73,33 @@ pub fn feed(t0: &[u8; 256], t1: &[u8; 256], s: super::TagState, block: &[u8]) ->
     }
 }
 
+pub struct Moved {
+    pub s: super::TagState,
+    pub at: usize,
+}
+
+// Whole blocks, as many as there are, where nothing waits. The one call of `feed`, which is then inlined in this loop.
+pub fn blocks(
+    t0: &[u8; 256],
+    t1: &[u8; 256],
+    start: super::TagState,
+    message: &[u8],
+    from: usize,
+) -> Moved
+    requires { ⌜ now t0 ≡ S₀-table ⌝ ∗ ⌜ now t1 ≡ S₁-table ⌝ ∗ ⌜ Held (storedOf start) ⌝ ∗ ⌜ (start .cnt ≡ 0) × (from ≤ length (now message)) ⌝ }
+    ensures { λ r. ⌜ Blocks (storedOf start) (now (message .entry)) from (storedOf (r .s)) (r .at) ⌝ }
+{
+    let width = start.width;
+    let mut s = start;
+    let mut i = from;
+    while width <= message.len() - i {
+        let e = i + width;
+        s = feed(t0, t1, s, &message[i..e]);
+        i = e;
+    }
+    Moved { s, at: i }
+}
+
 // One message byte: it waits, or completes a block.
 pub fn absorb(t0: &[u8; 256], t1: &[u8; 256], s: super::TagState, b: u8) -> super::TagState
     requires { ⌜ now t0 ≡ S₀-table ⌝ ∗ ⌜ now t1 ≡ S₁-table ⌝ ∗ ⌜ Held (storedOf s) ⌝ }
@@ -82,10 +109,10 @@ pub fn absorb(t0: &[u8; 256], t1: &[u8; 256], s: super::TagState, b: u8) -> supe
     let width = s.width;
     let mut rem = s.rem;
     rem[at] = b;
+    let g = s.g;
+    let key = s.key;
+    let tag = s.tag;
     if at + 1 < width {
-        let g = s.g;
-        let key = s.key;
-        let tag = s.tag;
         return super::TagState {
             g,
             key,
@@ -95,15 +122,19 @@ pub fn absorb(t0: &[u8; 256], t1: &[u8; 256], s: super::TagState, b: u8) -> supe
             width,
         };
     }
-    feed(t0, t1, s, &rem[..width])
+    let empty = super::TagState {
+        g,
+        key,
+        tag,
+        rem: [0; 16],
+        cnt: 0,
+        width,
+    };
+    let r = blocks(t0, t1, empty, &rem[..width], 0);
+    r.s
 }
 
-pub struct Moved {
-    pub s: super::TagState,
-    pub at: usize,
-}
-
-// The next block where nothing waits, and else the next byte.
+// The next blocks where nothing waits, and else the next byte.
 pub fn turn(t0: &[u8; 256], t1: &[u8; 256], s: super::TagState, message: &[u8], i: usize) -> Moved
     requires { ⌜ now t0 ≡ S₀-table ⌝ ∗ ⌜ now t1 ≡ S₁-table ⌝ ∗ ⌜ Held (storedOf s) ⌝ ∗ ⌜ i < length (now message) ⌝ }
     ensures { λ r. ⌜ Turned (storedOf s) (now (message .entry)) i (storedOf (r .s)) (r .at) ⌝ }
@@ -112,9 +143,7 @@ pub fn turn(t0: &[u8; 256], t1: &[u8; 256], s: super::TagState, message: &[u8], 
     let width = s.width;
     if cnt == 0 {
         if width <= message.len() - i {
-            let e = i + width;
-            let r = feed(t0, t1, s, &message[i..e]);
-            return Moved { s: r, at: e };
+            return blocks(t0, t1, s, message, i);
         }
     }
     let r = absorb(t0, t1, s, message[i]);

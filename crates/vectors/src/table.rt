@@ -16,7 +16,7 @@ fn digit(c: u8) -> u8
     (c % 16 + 9) % 16
 }
 
-fn least(a: usize, b: usize) -> usize
+pub fn least(a: usize, b: usize) -> usize
     ensures { λ r. ⌜ (r ≤ a) × (r ≤ b) ⌝ }
 {
     if a < b { a } else { b }

@@ -1,12 +1,12 @@
 -- `registers::updates::absorb` meets its contract: the byte waits at the first free place, or fills the block.
-use mathlib.Core.Path.{_≡_, sym, _∙_}
+use mathlib.Core.Path.{_≡_, refl, sym}
 use Prim.Native.Nat.{ℕ, _≤_}
 use native.Mathlib.Omega.{arith}
 use lib.ListN.{length, length-set, set}
 use lib.Seq.{length-take-le}
 use borrow.Author.Needs.{needs}
 use Rattle.registers.specs.Stored.{storedOf}
-use Rattle.registers.proofs.Moves.{cnt-most, fills-is, waits-is}
+use Rattle.registers.proofs.Moves.{cnt-most, emptied-held, one-block-is, waits-is}
 use Rattle.registers.proofs.Packed.{width-most}
 use Rattle.registers.proofs.updates.absorb.Statement.{statement}
 use Rattle.registers.proofs.updates.absorb.Tie as tie
@@ -24,31 +24,31 @@ array-write-rem c =
 
 add-if1 : tie.Need-add-if1
 add-if1 c =
-    let s = c .before in
+    let s = c .before .before .before .before in
     omega (arith, cnt-most (storedOf (s .args .s)) (s .pre .1 .1))
 
 returns : tie.Need-returns
 returns c =
-    let i = c .before .before .before in
-    let s = i .before .before in
-    waits-is (storedOf (s .args .s)) (s .pre .1 .1) (s .args .b) (i .if1 .taken)
+    let s = c .before .before .before .before .before in
+    waits-is (storedOf (s .args .s)) (s .pre .1 .1) (s .args .b) (c .if1 .taken)
 
 array-share-prefix-rem : tie.Need-array-share-prefix-rem
-array-share-prefix-rem c = room (c .before .before)
+array-share-prefix-rem c = room (c .before .before .before .before .before)
 
-slice-aggregate-feed : tie.Need-slice-aggregate-feed
-slice-aggregate-feed c = sym (length-take-le _ _ (room (c .before .before .before)))
+slice-aggregate-blocks : tie.Need-slice-aggregate-blocks
+slice-aggregate-blocks c = sym (length-take-le _ _ (room (c .before .before .before .before .before .before)))
 
-feed-requires : tie.Need-feed-requires
-feed-requires c κs =
-    let s = c .before .before .before in
-    (s .pre .0, (s .pre .1 .0, (s .pre .1 .1, length-take-le _ _ (room s))))
+blocks-requires : tie.Need-blocks-requires
+blocks-requires c κs =
+    let s = c .before .before .before .before .before .before in
+    (s .pre .0, (s .pre .1 .0, (emptied-held (storedOf (s .args .s)) (s .pre .1 .1), (refl, omega arith))))
 
 returns-2 : tie.Need-returns-2
 returns-2 c =
-    let i = c .before .before in
-    let s = i .before .before in
-    c .feed .ensures ∙ fills-is (storedOf (s .args .s)) (s .pre .1 .1) (s .args .b) (i .if1 .left)
+    let r = c .before in
+    let i = r .before .before in
+    let s = i .before .before .before .before .before in
+    one-block-is (storedOf (s .args .s)) (s .pre .1 .1) (s .args .b) (rem-length s) (i .if1 .left) (storedOf (r .blocks2 .result .s)) (r .blocks2 .result .at) (r .blocks2 .ensures)
 
 pub absorb-spec : {M : Type 1} → statement M
 absorb-spec =
@@ -59,6 +59,6 @@ absorb-spec =
     (λ c. search needs)
     returns
     array-share-prefix-rem
-    slice-aggregate-feed
-    feed-requires
+    slice-aggregate-blocks
+    blocks-requires
     returns-2)

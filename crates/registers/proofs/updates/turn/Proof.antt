@@ -1,38 +1,26 @@
 -- `registers::updates::turn` meets its contract: a block where nothing waits, and else a byte.
-use mathlib.Core.Path.{_≡_, _∙_}
-use Prim.Native.Nat.{ℕ, _+_, _-_, _≤_}
+use mathlib.Core.Path.{_∙_}
 use native.Mathlib.Omega.{arith}
-use lib.ListN.{drop, length, length-drop, take}
-use lib.Seq.{length-take-le}
 use borrow.Author.Needs.{needs}
 use denote.Ref.{now}
 use Rattle.registers.specs.Stored.{storedOf}
-use Rattle.registers.proofs.Moves.{block-is, byte-is, cnt-lt}
+use Rattle.registers.proofs.Moves.{byte-is}
 use Rattle.registers.proofs.updates.turn.Statement.{statement}
 use Rattle.registers.proofs.updates.turn.Tie as tie
 
-block-length : (s : tie.Start) → s .args .s .width ≤ length (now (s .args .message)) - s .args .i
-    → length (take (s .args .i + s .args .s .width - s .args .i) (drop (s .args .i) (now (s .args .message)))) ≡ s .args .s .width
-block-length s h =
-    let n : s .args .i + s .args .s .width - s .args .i ≡ s .args .s .width = omega arith in
-    length-take-le _ (drop (s .args .i) (now (s .args .message))) (omega (arith, length-drop (s .args .i) (now (s .args .message)))) ∙ n
-
-feed-requires : tie.Need-feed-requires
-feed-requires c κs =
-    let i = c .before in
-    let s = i .before .before .before in
-    (s .pre .0, (s .pre .1 .0, (s .pre .1 .1 .0, block-length s (i .if2 .taken))))
+blocks-requires : tie.Need-blocks-requires
+blocks-requires c κs =
+    let s = c .before .before .before in
+    (s .pre .0, (s .pre .1 .0, (s .pre .1 .1 .0, (c .before .if1 .taken, omega (arith, s .pre .1 .1 .1)))))
 
 returns : tie.Need-returns
 returns c =
-    let i = c .before .before in
+    let i = c .before in
     let s = i .before .before .before in
-    let a = s .args in
-    let h : a .s .width ≤ length (now (a .message)) - a .i = i .if2 .taken in
     record {
-      on = omega (arith, cnt-lt (storedOf (a .s)) (s .pre .1 .1 .0));
-      within = omega (arith, s .pre .1 .1 .1);
-      held = c .feed .ensures ∙ block-is (storedOf (a .s)) (s .pre .1 .1 .0) _ (i .before .if1 .taken) (block-length s h);
+      on = omega (arith, c .blocks2 .ensures .all, i .if2 .taken, s .pre .1 .1 .1);
+      within = c .blocks2 .ensures .within;
+      held = c .blocks2 .ensures .held;
     }
 
 absorb-requires : tie.Need-absorb-requires
@@ -55,11 +43,7 @@ turn-spec =
     tie.close
     (tie.spec
     (λ c. search needs)
-    (λ c. search needs)
-    (λ c. search needs)
-    (λ c. search needs)
-    (λ c. search needs)
-    feed-requires
+    blocks-requires
     returns
     (λ c. search needs)
     absorb-requires
