@@ -46,7 +46,7 @@ extern "C" {
 #define ZUC_STATE_WORDS 18
 
 /* Words of a tag's state. What stands where is the library's own affair. */
-#define ZUC_TAG_WORDS 27
+#define ZUC_TAG_WORDS 19
 
 /* Refusals, in the order in which they are checked. */
 #define ZUC_BAD_WIDTH 1u /* the tag width is not 4, 8 or 16 bytes */

@@ -273,7 +273,7 @@ fn lent_tag(input: &Input) -> Verdict {
     let parts = layout::unpack(&array);
     for tagger in [Tagger::Zuc128, Tagger::Zuc256 { width: 4 }] {
         let extra_word = tagger == Tagger::Zuc128;
-        let model = parts.as_ref().and_then(|parts| model::Tag::from_parts(extra_word, parts));
+        let model = model::Tag::from_parts(extra_word, &parts);
         lent_update(tagger, &array, model.clone(), input)?;
         lent_finish(tagger, &array, model, input)?;
     }

@@ -19,43 +19,45 @@ pub struct Parts {
     pub width: usize,
 }
 
-const KEY: usize = 18;
-const TAG: usize = 22;
-const WAITING: usize = 24;
-const WIDTH_AND_COUNT: usize = 26;
+const KEY: usize = 9;
+const TAG: usize = 13;
+const WAITING: usize = 15;
+const COUNT: usize = 17;
+const WIDTH: usize = 18;
 
 pub fn pack(parts: &Parts) -> TagState {
     let mut array = [0; TAG_WORDS];
-    for (number, &word) in array.iter_mut().zip(&parts.generator) {
-        *number = word.into();
+    for (number, pair) in array.iter_mut().zip(parts.generator.chunks(2)) {
+        *number = u64::from(pair[0]) << 32 | u64::from(pair[1]);
     }
     array[KEY..TAG].copy_from_slice(&parts.key);
     array[TAG..WAITING].copy_from_slice(&parts.tag);
     for (number, bytes) in array[WAITING..].iter_mut().zip(parts.waiting.chunks(8)) {
         *number = u64::from_be_bytes(bytes.try_into().expect("eight bytes"));
     }
-    array[WIDTH_AND_COUNT] = (parts.width * 256 + parts.count) as u64;
+    array[COUNT] = parts.count as u64;
+    array[WIDTH] = parts.width as u64;
     array
 }
 
-/// The parts that an array holds, unless it holds a number too great for its place.
-pub fn unpack(array: &TagState) -> Option<Parts> {
+/// The parts that an array holds. Every array holds some: no number is too great for its place.
+pub fn unpack(array: &TagState) -> Parts {
     let mut generator = [0; 18];
-    for (word, &number) in generator.iter_mut().zip(array) {
-        *word = number.try_into().ok()?;
+    for (pair, number) in generator.chunks_mut(2).zip(array) {
+        pair.copy_from_slice(&[(number >> 32) as u32, *number as u32]);
     }
     let mut waiting = [0; 16];
     for (bytes, number) in waiting.chunks_mut(8).zip(&array[WAITING..]) {
         bytes.copy_from_slice(&number.to_be_bytes());
     }
-    Some(Parts {
+    Parts {
         generator,
         key: array[KEY..TAG].try_into().expect("four words"),
         tag: array[TAG..WAITING].try_into().expect("two words"),
         waiting,
-        count: (array[WIDTH_AND_COUNT] % 256) as usize,
-        width: (array[WIDTH_AND_COUNT] / 256) as usize,
-    })
+        count: array[COUNT] as usize,
+        width: array[WIDTH] as usize,
+    }
 }
 
 #[cfg(test)]
@@ -75,7 +77,9 @@ mod tests {
                 count: rng.below(16),
                 width: rng.below(17),
             };
-            assert_eq!(unpack(&pack(&parts)), Some(parts));
+            assert_eq!(unpack(&pack(&parts)), parts);
+            let array = [0; TAG_WORDS].map(|_: u64| rng.number());
+            assert_eq!(pack(&unpack(&array)), array);
         }
     }
 }

@@ -33,7 +33,7 @@ use crate::ffi;
 pub const STATE_WORDS: usize = 18;
 
 /// Numbers in a tag's state: `ZUC_TAG_WORDS` of zuc.h.
-pub const TAG_WORDS: usize = 27;
+pub const TAG_WORDS: usize = 19;
 
 /// A generator's state: the cells s0..s15, then R1, then R2.
 pub type State = [u32; STATE_WORDS];

@@ -1,6 +1,9 @@
 -- Any two outcomes that the contract of a start, a draw or a fill allows are equal: document 01's numbers tell the cases of an answer apart.
+use base.Logic.{emp}
+use borrow.Fn.Claims.{AllOf}
 use borrow.Fn.Kinds.{endedOf}
-use borrow.Fn.World.{ArgsD, ResD}
+use borrow.Fn.Read.{ReadAt, no-know, r-last}
+use borrow.Fn.World.{ArgsD, ResD, World, w₀}
 use contract.Lifetimes.{Lfts}
 use denote.Ref.{now}
 use denote.Triple.Clauses.{AtExit}
@@ -15,6 +18,7 @@ use Rattle.keystream.proofs.fill.Reads as fill-reads
 use Rattle.keystream.proofs.generate as generate
 use Rattle.keystream.proofs.generate.Kinds as generate-kinds
 use Rattle.keystream.proofs.generate.Reads as generate-reads
+use Rattle.keystream.proofs.generate_in_place as in-place
 use Rattle.keystream.proofs.zuc128.new as zuc128
 use Rattle.keystream.proofs.zuc128.new.Kinds as zuc128-kinds
 use Rattle.keystream.proofs.zuc128.new.Reads as zuc128-reads
@@ -103,6 +107,20 @@ tight-eea3-new κs a r r′ s s′ p q = start-tight r r′ (p ∙ sym q)
 pub tight-generate : (κs : Lfts 0) (a : ArgsD generate.signature κs) (r r′ : ResD generate.signature κs) (s s′ : AtExit (endedOf 0 generate-kinds.ps generate-kinds.r) κs)
     → generate-reads.Post κs a r s → generate-reads.Post κs a r′ s′ → r ≡ r′
 tight-generate κs a r r′ s s′ p q = draw-tight r r′ (p ∙ sym q)
+
+-- a function walked by hand has no `Reads`: its promise is read here, by the rules that read every other one
+abbrev in-place-read : (κs : Lfts 1) (a : ArgsD in-place.signature κs) (r : ResD in-place.signature κs) (s : AtExit in-place.ended κs) (w : World)
+    → ReadAt w (λ w. emp (w .𝓤)) no-know (in-place.clauses (w .𝓤) (w .H) (w .𝓖 .A) (w .𝓜 .mem) (w .𝓡 .run) κs a .ensures tt r s)
+in-place-read κs a r s w = r-last _
+
+abbrev in-place-post : (κs : Lfts 1) (a : ArgsD in-place.signature κs) → ResD in-place.signature κs → AtExit in-place.ended κs → Type 0
+in-place-post κs a r s = AllOf (in-place-read κs a r s w₀ .tells)
+
+pub tight-generate-in-place : (κs : Lfts 1) (a : ArgsD in-place.signature κs) (r r′ : ResD in-place.signature κs) (s s′ : AtExit in-place.ended κs)
+    → in-place-post κs a r s → in-place-post κs a r′ s′ → (r ≡ r′) × (now (s .0) ≡ now (s′ .0))
+tight-generate-in-place κs a r r′ s s′ p q =
+    let e : _≡_ {A = Drew} (record { answer = r; state = now (s .0) }) (record { answer = r′; state = now (s′ .0) }) = draw-tight _ _ (p ∙ sym q) in
+    (λ i. e i .answer, λ i. e i .state)
 
 pub tight-fill : (κs : Lfts 1) (a : ArgsD fill.signature κs) (r r′ : ResD fill.signature κs) (s s′ : AtExit (endedOf 1 fill-kinds.ps fill-kinds.r) κs)
     → fill-reads.Post κs a r s → fill-reads.Post κs a r′ s′ → (r ≡ r′) × (now (s .1 .0) ≡ now (s′ .1 .0))

@@ -100,6 +100,15 @@ pub fn generate(state: Zuc) -> Drew
     }
 }
 
+// The same of a generator that the caller lends: taken out, stepped by value, and written back.
+pub fn generate_in_place(g: &mut Zuc) -> DrawAnswer
+    ensures { λ r. ⌜ drawTold (record { answer = r; state = now (g .exit) }) ≡ drawOutcome (stateOf (now (g .entry))) ⌝ }
+{
+    let drew = generate(*g);
+    *g = drew.state;
+    drew.answer
+}
+
 // A buffer filled with words. It calls the parts of a draw, which are then inlined here.
 fn words_into(state: Zuc, buffer: &mut [u32]) -> Zuc
     requires { ⌜ Cells (stateOf state .cells) ⌝ }

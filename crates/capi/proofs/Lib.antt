@@ -1,0 +1,4 @@
+pub mod Regrouped
+pub mod Packing
+pub mod Refusals
+pub mod Tight

@@ -1,0 +1,22 @@
+-- `zuc128_tag_update` puts the update of the state in the array.
+use denote.Ref.{now}
+use mathlib.Core.Path.{_∙_, ap}
+use Rattle.capi.specs.Tags.{tagArray}
+use Rattle.mac.specs.Calls.{formed-128, updateOutcome}
+use Rattle.registers.specs.Stored.{Stored}
+use borrow.Author.Needs.{needs}
+use Rattle.capi.proofs.tags.zuc128_tag_update.Statement.{statement}
+use Rattle.capi.proofs.tags.zuc128_tag_update.Tie as tie
+
+returns : tie.Need-returns
+returns c =
+    let update = c .before .before .before .before in
+    let state = update .before in
+    let msg = now (state .before .before .before .args .msg) in
+    c .put-update .ensures
+    ∙ ap tagArray (update .update .ensures ∙ ap (λ (s : Stored). updateOutcome (formed-128 s) s msg) (state .tag-state-in .ensures))
+
+pub zuc128-tag-update-spec : {M : Type 1} → statement M
+zuc128-tag-update-spec =
+    tie.close
+    (tie.spec (λ c κs. search needs) (λ c κs. search needs) (λ c κs. search needs) returns)

@@ -1,0 +1,173 @@
+// Generators: starts, draws and masks.
+ghost use mathlib.Core.List.{List};
+ghost use mathlib.Core.Path.{_≡_};
+ghost use Prim.Native.Nat.{ℕ};
+ghost use Rattle.capi.specs.Arrays.{stateIn};
+ghost use Rattle.capi.specs.Generators.{drawArray, maskArray, startArray, wordsArray};
+ghost use Rattle.keystream.specs.Draws.{drawNumber, drawOutcome, drawWord, fillNumber, fillOutcome};
+ghost use Rattle.keystream.specs.Starts.{startNumber, startTold, start₁₂₈, start₂₅₆, start-EEA3};
+ghost use Rattle.mask.specs.Outcome.{cleanOutcome, countOf, crateOutcome, numberOf, told};
+ghost use Rattle.standard.specs.Loading.{d-keystream};
+use super::arrays::array_of;
+use super::arrays::state_in;
+use keystream::DrawAnswer;
+use keystream::FillAnswer;
+use keystream::Start;
+use keystream::StartAnswer;
+use mask::MaskAnswer;
+use mask::Masked;
+
+pub fn start_number(answer: StartAnswer) -> u32
+    ensures { λ r. ⌜ r ≡ startNumber answer ⌝ }
+{
+    match answer {
+        StartAnswer::Started => 0,
+        StartAnswer::BadWidth => 1,
+        StartAnswer::BadKey => 2,
+        StartAnswer::BadIv => 3,
+    }
+}
+
+fn draw_number(answer: DrawAnswer) -> u32
+    ensures { λ r. ⌜ r ≡ drawNumber answer ⌝ }
+{
+    match answer {
+        DrawAnswer::Word(_) => 0,
+        DrawAnswer::Malformed => 4,
+    }
+}
+
+fn draw_word(answer: DrawAnswer) -> u32
+    ensures { λ r. ⌜ r ≡ drawWord answer ⌝ }
+{
+    match answer {
+        DrawAnswer::Word(w) => w,
+        DrawAnswer::Malformed => 0,
+    }
+}
+
+fn fill_number(answer: FillAnswer) -> u32
+    ensures { λ r. ⌜ r ≡ fillNumber answer ⌝ }
+{
+    match answer {
+        FillAnswer::Filled => 0,
+        FillAnswer::Unfilled => 4,
+    }
+}
+
+fn mask_number(answer: MaskAnswer) -> u32
+    ensures { λ r. ⌜ r ≡ numberOf answer ⌝ }
+{
+    match answer {
+        MaskAnswer::Done(_) => 0,
+        MaskAnswer::Malformed => 4,
+        MaskAnswer::TooLong => 5,
+    }
+}
+
+fn mask_count(answer: MaskAnswer) -> usize
+    ensures { λ r. ⌜ r ≡ countOf answer ⌝ }
+{
+    match answer {
+        MaskAnswer::Done(n) => n,
+        MaskAnswer::Malformed => 0,
+        MaskAnswer::TooLong => 0,
+    }
+}
+
+// What a start hands back goes into the array: zeros, where it was refused.
+fn put_start(state: &mut [u32; 18], start: Start) -> u32
+    ensures { λ r. ⌜ record { number = r; array = now (state .exit) } ≡ startArray (startTold start) ⌝ }
+{
+    let z = start.state;
+    let answer = start.answer;
+    *state = array_of(z);
+    start_number(answer)
+}
+
+#[no_mangle]
+pub extern "C" fn zuc128_start(state: &mut [u32; 18], key: &[u8], iv: &[u8]) -> u32
+    ensures { λ r. ⌜ record { number = r; array = now (state .exit) } ≡ startArray (start₁₂₈ (now (key .entry)) (now (iv .entry))) ⌝ }
+{
+    put_start(state, keystream::zuc128::new(key, iv))
+}
+
+#[no_mangle]
+pub extern "C" fn zuc256_start(state: &mut [u32; 18], key: &[u8], iv: &[u8]) -> u32
+    ensures { λ r. ⌜ record { number = r; array = now (state .exit) } ≡ startArray (start₂₅₆ d-keystream (now (key .entry)) (now (iv .entry))) ⌝ }
+{
+    put_start(state, keystream::zuc256::new(key, iv))
+}
+
+#[no_mangle]
+pub extern "C" fn eea3_start(
+    state: &mut [u32; 18],
+    count: u32,
+    bearer: u8,
+    direction: u8,
+    key: &[u8],
+) -> u32
+    ensures { λ r. ⌜ record { number = r; array = now (state .exit) } ≡ startArray (start-EEA3 count bearer direction (now (key .entry))) ⌝ }
+{
+    put_start(state, keystream::eea3::new(count, bearer, direction, key))
+}
+
+#[no_mangle]
+pub extern "C" fn zuc_draw(state: &mut [u32; 18], word: &mut u32) -> u32
+    ensures { λ r. ⌜ record { number = r; word = now (word .exit); array = now (state .exit) } ≡ drawArray (drawOutcome (stateIn (now (state .entry)))) ⌝ }
+{
+    let drew = keystream::generate(state_in(*state));
+    let next = drew.state;
+    let answer = drew.answer;
+    *state = array_of(next);
+    *word = draw_word(answer);
+    draw_number(answer)
+}
+
+#[no_mangle]
+pub extern "C" fn zuc_words(state: &mut [u32; 18], out: &mut [u32]) -> u32
+    ensures { λ r. ⌜ record { number = r; array = now (state .exit); buffer = now (out .exit) } ≡ wordsArray (fillOutcome (stateIn (now (state .entry))) (now (out .entry))) ⌝ }
+{
+    let filling = keystream::fill(state_in(*state), out);
+    let next = filling.state;
+    let answer = filling.answer;
+    *state = array_of(next);
+    fill_number(answer)
+}
+
+// What a masking call hands back goes into the array and the count, whatever its buffer became.
+fn put_mask(masked: Masked, state: &mut [u32; 18], count: &mut usize) -> u32
+    ensures { λ r. ⌜ ((buffer : List ℕ) → record { number = r; count = now (count .exit); array = now (state .exit); buffer = buffer } ≡ maskArray (told masked buffer)) ⌝ }
+{
+    let next = masked.state;
+    let answer = masked.answer;
+    *state = array_of(next);
+    *count = mask_count(answer);
+    mask_number(answer)
+}
+
+#[no_mangle]
+pub extern "C" fn zuc_mask_crate(
+    state: &mut [u32; 18],
+    buf: &mut [u8],
+    bits: usize,
+    count: &mut usize,
+) -> u32
+    ensures { λ r. ⌜ record { number = r; count = now (count .exit); array = now (state .exit); buffer = now (buf .exit) } ≡ maskArray (crateOutcome (stateIn (now (state .entry))) bits (now (buf .entry))) ⌝ }
+{
+    let masked = mask::mask_crate(state_in(*state), buf, bits);
+    put_mask(masked, state, count)
+}
+
+#[no_mangle]
+pub extern "C" fn zuc_mask_clean(
+    state: &mut [u32; 18],
+    buf: &mut [u8],
+    bits: usize,
+    count: &mut usize,
+) -> u32
+    ensures { λ r. ⌜ record { number = r; count = now (count .exit); array = now (state .exit); buffer = now (buf .exit) } ≡ maskArray (cleanOutcome (stateIn (now (state .entry))) bits (now (buf .entry))) ⌝ }
+{
+    let masked = mask::mask_clean(state_in(*state), buf, bits);
+    put_mask(masked, state, count)
+}

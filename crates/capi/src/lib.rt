@@ -1,0 +1,4 @@
+// The exported C functions (include/zuc.h): states are arrays of numbers that the caller lends.
+pub mod arrays;
+pub mod generators;
+pub mod tags;

@@ -1,0 +1,291 @@
+// Tags: starts, updates, closings and one-shots.
+ghost use mathlib.Core.Path.{_≡_};
+ghost use Rattle.capi.specs.Arrays.{storedIn};
+ghost use Rattle.capi.specs.Tags.{closingArray, tagArray, twoClosing, twoOnce};
+ghost use Rattle.keystream.specs.Starts.{startNumber};
+ghost use Rattle.mac.specs.Calls.{finishOutcome-128, finishOutcome-256, formed-128, onceOutcome-128, onceOutcome-256, onceOutcome-EIA3, onceTold-128, onceTold-256, startOutcome-128, startOutcome-256, startOutcome-EIA3, tagList, tagNumber-128, tagNumber-256, tagWord, updateNumber, updateOutcome};
+ghost use Rattle.registers.specs.Stored.{formed, storedOf};
+use super::arrays::tag_array_of;
+use super::arrays::tag_state_in;
+use super::generators::start_number;
+use keystream::StartAnswer;
+use mac::Mac128;
+use mac::Mac256;
+use mac::Once128;
+use mac::Once256;
+use mac::Tag128;
+use mac::Tag256;
+use mac::UpdateAnswer;
+use registers::TagState;
+
+fn update_number(answer: UpdateAnswer) -> u32
+    ensures { λ r. ⌜ r ≡ updateNumber answer ⌝ }
+{
+    match answer {
+        UpdateAnswer::Done => 0,
+        UpdateAnswer::Malformed => 4,
+    }
+}
+
+fn number_128(answer: Tag128) -> u32
+    ensures { λ r. ⌜ r ≡ tagNumber-128 answer ⌝ }
+{
+    match answer {
+        Tag128::Tag(_) => 0,
+        Tag128::BadState => 4,
+        Tag128::TooLong => 5,
+    }
+}
+
+fn tag_word(answer: Tag128) -> u32
+    ensures { λ r. ⌜ r ≡ tagWord answer ⌝ }
+{
+    match answer {
+        Tag128::Tag(tag) => tag,
+        Tag128::BadState => 0,
+        Tag128::TooLong => 0,
+    }
+}
+
+fn number_256(answer: Tag256) -> u32
+    ensures { λ r. ⌜ r ≡ tagNumber-256 answer ⌝ }
+{
+    match answer {
+        Tag256::Tag(_, _) => 0,
+        Tag256::BadState => 4,
+        Tag256::TooLong => 5,
+    }
+}
+
+fn tag_words(answer: Tag256) -> [u64; 2]
+    ensures { λ r. ⌜ r ≡ tagList answer ⌝ }
+{
+    match answer {
+        Tag256::Tag(high, low) => [high, low],
+        Tag256::BadState => [0, 0],
+        Tag256::TooLong => [0, 0],
+    }
+}
+
+fn once_number_128(answer: Once128) -> u32
+    ensures { λ r. ⌜ r ≡ onceTold-128 answer .number ⌝ }
+{
+    match answer {
+        Once128::Tag(_) => 0,
+        Once128::BadKey => 2,
+        Once128::BadIv => 3,
+        Once128::TooLong => 5,
+    }
+}
+
+fn once_word(answer: Once128) -> u32
+    ensures { λ r. ⌜ r ≡ onceTold-128 answer .tag ⌝ }
+{
+    match answer {
+        Once128::Tag(tag) => tag,
+        Once128::BadKey => 0,
+        Once128::BadIv => 0,
+        Once128::TooLong => 0,
+    }
+}
+
+fn once_number_256(answer: Once256) -> u32
+    ensures { λ r. ⌜ r ≡ onceTold-256 answer .number ⌝ }
+{
+    match answer {
+        Once256::Tag(_, _) => 0,
+        Once256::BadWidth => 1,
+        Once256::BadKey => 2,
+        Once256::BadIv => 3,
+        Once256::TooLong => 5,
+    }
+}
+
+fn once_words(answer: Once256) -> [u64; 2]
+    ensures { λ r. ⌜ r ≡ onceTold-256 answer .tag ⌝ }
+{
+    match answer {
+        Once256::Tag(high, low) => [high, low],
+        Once256::BadWidth => [0, 0],
+        Once256::BadKey => [0, 0],
+        Once256::BadIv => [0, 0],
+        Once256::TooLong => [0, 0],
+    }
+}
+
+// What a start hands back goes into the array: zeros, where it was refused.
+fn put_start(state: &mut [u64; 19], answer: StartAnswer, s: TagState) -> u32
+    ensures { λ r. ⌜ record { number = r; array = now (state .exit) } ≡ tagArray (record { number = startNumber answer; state = storedOf s }) ⌝ }
+{
+    *state = tag_array_of(s);
+    start_number(answer)
+}
+
+#[no_mangle]
+pub extern "C" fn zuc128_tag_start(state: &mut [u64; 19], key: &[u8], iv: &[u8]) -> u32
+    ensures { λ r. ⌜ record { number = r; array = now (state .exit) } ≡ tagArray (startOutcome-128 (now (key .entry)) (now (iv .entry))) ⌝ }
+{
+    let start = mac::zuc128::new(key, iv);
+    let mac = start.mac;
+    let s = mac.state;
+    let answer = start.answer;
+    put_start(state, answer, s)
+}
+
+#[no_mangle]
+pub extern "C" fn eia3_tag_start(
+    state: &mut [u64; 19],
+    count: u32,
+    bearer: u8,
+    direction: u8,
+    key: &[u8],
+) -> u32
+    ensures { λ r. ⌜ record { number = r; array = now (state .exit) } ≡ tagArray (startOutcome-EIA3 count bearer direction (now (key .entry))) ⌝ }
+{
+    let start = mac::eia3::new(count, bearer, direction, key);
+    let mac = start.mac;
+    let s = mac.state;
+    let answer = start.answer;
+    put_start(state, answer, s)
+}
+
+#[no_mangle]
+pub extern "C" fn zuc256_tag_start(
+    state: &mut [u64; 19],
+    width: usize,
+    key: &[u8],
+    iv: &[u8],
+) -> u32
+    ensures { λ r. ⌜ record { number = r; array = now (state .exit) } ≡ tagArray (startOutcome-256 width (now (key .entry)) (now (iv .entry))) ⌝ }
+{
+    let start = mac::zuc256::new(width, key, iv);
+    let mac = start.mac;
+    let s = mac.state;
+    let answer = start.answer;
+    put_start(state, answer, s)
+}
+
+// What an update hands back goes into the array.
+fn put_update(state: &mut [u64; 19], answer: UpdateAnswer, s: TagState) -> u32
+    ensures { λ r. ⌜ record { number = r; array = now (state .exit) } ≡ tagArray (record { number = updateNumber answer; state = storedOf s }) ⌝ }
+{
+    *state = tag_array_of(s);
+    update_number(answer)
+}
+
+#[no_mangle]
+pub extern "C" fn zuc128_tag_update(state: &mut [u64; 19], msg: &[u8]) -> u32
+    ensures { λ r. ⌜ record { number = r; array = now (state .exit) } ≡ tagArray (updateOutcome (formed-128 (storedIn (now (state .entry)))) (storedIn (now (state .entry))) (now (msg .entry))) ⌝ }
+{
+    let before = tag_state_in(*state);
+    let update = mac::zuc128::update(Mac128 { state: before }, msg);
+    let mac = update.mac;
+    let s = mac.state;
+    let answer = update.answer;
+    put_update(state, answer, s)
+}
+
+#[no_mangle]
+pub extern "C" fn zuc256_tag_update(state: &mut [u64; 19], msg: &[u8]) -> u32
+    ensures { λ r. ⌜ record { number = r; array = now (state .exit) } ≡ tagArray (updateOutcome (formed (storedIn (now (state .entry)))) (storedIn (now (state .entry))) (now (msg .entry))) ⌝ }
+{
+    let before = tag_state_in(*state);
+    let update = mac::zuc256::update(Mac256 { state: before }, msg);
+    let mac = update.mac;
+    let s = mac.state;
+    let answer = update.answer;
+    put_update(state, answer, s)
+}
+
+#[no_mangle]
+pub extern "C" fn zuc128_tag_finish(
+    state: &mut [u64; 19],
+    tail: &[u8],
+    bits: usize,
+    tag: &mut [u64; 2],
+) -> u32
+    ensures { λ r. ⌜ record { number = r; tag = now (tag .exit); array = now (state .exit) } ≡ closingArray (twoClosing (finishOutcome-128 (storedIn (now (state .entry))) (now (tail .entry)) bits)) ⌝ }
+{
+    let before = tag_state_in(*state);
+    let finish = mac::zuc128::finish(Mac128 { state: before }, tail, bits);
+    let mac = finish.mac;
+    let s = mac.state;
+    let answer = finish.answer;
+    *state = tag_array_of(s);
+    *tag = [tag_word(answer) as u64, 0];
+    number_128(answer)
+}
+
+#[no_mangle]
+pub extern "C" fn zuc256_tag_finish(
+    state: &mut [u64; 19],
+    tail: &[u8],
+    bits: usize,
+    tag: &mut [u64; 2],
+) -> u32
+    ensures { λ r. ⌜ record { number = r; tag = now (tag .exit); array = now (state .exit) } ≡ closingArray (finishOutcome-256 (storedIn (now (state .entry))) (now (tail .entry)) bits) ⌝ }
+{
+    let before = tag_state_in(*state);
+    let finish = mac::zuc256::finish(Mac256 { state: before }, tail, bits);
+    let mac = finish.mac;
+    let s = mac.state;
+    let answer = finish.answer;
+    *state = tag_array_of(s);
+    *tag = tag_words(answer);
+    number_256(answer)
+}
+
+// What a one-shot of 32 bits answers goes into the tag.
+fn put_once_128(answer: Once128, tag: &mut [u64; 2]) -> u32
+    ensures { λ r. ⌜ record { number = r; tag = now (tag .exit) } ≡ twoOnce (onceTold-128 answer) ⌝ }
+{
+    *tag = [once_word(answer) as u64, 0];
+    once_number_128(answer)
+}
+
+#[no_mangle]
+pub extern "C" fn zuc128_tag(
+    key: &[u8],
+    iv: &[u8],
+    msg: &[u8],
+    bits: usize,
+    tag: &mut [u64; 2],
+) -> u32
+    ensures { λ r. ⌜ record { number = r; tag = now (tag .exit) } ≡ twoOnce (onceOutcome-128 (now (key .entry)) (now (iv .entry)) (now (msg .entry)) bits) ⌝ }
+{
+    put_once_128(mac::zuc128::compute(key, iv, msg, bits), tag)
+}
+
+#[no_mangle]
+pub extern "C" fn eia3_tag(
+    count: u32,
+    bearer: u8,
+    direction: u8,
+    key: &[u8],
+    msg: &[u8],
+    bits: usize,
+    tag: &mut [u64; 2],
+) -> u32
+    ensures { λ r. ⌜ record { number = r; tag = now (tag .exit) } ≡ twoOnce (onceOutcome-EIA3 count bearer direction (now (key .entry)) (now (msg .entry)) bits) ⌝ }
+{
+    put_once_128(
+        mac::eia3::compute(count, bearer, direction, key, msg, bits),
+        tag,
+    )
+}
+
+#[no_mangle]
+pub extern "C" fn zuc256_tag(
+    width: usize,
+    key: &[u8],
+    iv: &[u8],
+    msg: &[u8],
+    bits: usize,
+    tag: &mut [u64; 2],
+) -> u32
+    ensures { λ r. ⌜ record { number = r; tag = now (tag .exit) } ≡ onceOutcome-256 width (now (key .entry)) (now (iv .entry)) (now (msg .entry)) bits ⌝ }
+{
+    let answer = mac::zuc256::compute(width, key, iv, msg, bits);
+    *tag = once_words(answer);
+    once_number_256(answer)
+}
