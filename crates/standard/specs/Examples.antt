@@ -11,10 +11,10 @@ pub record Example : Type 0 where
   pub gives : List ℕ
   pub must : List ℕ
 
-abbrev number : ℕ → ℕ → Example
+abbrev pub number : ℕ → ℕ → Example
 number gives must = record { gives = gives ∷ []; must = must ∷ [] }
 
-abbrev bytes : List ℕ → List ℕ → Example
+abbrev pub bytes : List ℕ → List ℕ → Example
 bytes gives must = record { gives = gives; must = must }
 
 abbrev all : ℕ → List ℕ
