@@ -1,11 +1,11 @@
--- A state goes into its array and comes back as it was, and an array into a state and back; by the entries of lists.
+-- A state goes into its array and comes back as it was, and an array into a state and back; by their entries written out.
 use lib.Dec.{lit<}
-use lib.ListN.{drop, getD, length, length-append, length-drop, take, List·getD-append}
+use lib.ListN.{drop, length, length-append, length-drop, take}
 use lib.Seq.{ext-getD, getD-append-add, getD-at, getD-drop, getD-take, length-take-le, take-at}
 use mathlib.Core.List.{List, [], _∷_, _++_}
-use mathlib.Core.Path.{_≡_, refl, sym, ap, ap₂, _∙_, subst}
+use mathlib.Core.Path.{_≡_, refl, sym, ap, _∙_, subst}
 use native.Mathlib.Omega.{arith}
-use Prim.Native.Nat.{ℕ, _+_, _*_, _^_, _<_, _≤_}
+use Prim.Native.Nat.{ℕ, zero, suc, _+_, _*_, _^_, _<_, _≤_}
 use Rattle.capi.proofs.Regrouped.{regrouped-back, regrouped-length}
 use Rattle.capi.specs.Arrays.{arrayOf, regrouped, stateIn, storedIn, tagArrayOf}
 use Rattle.registers.specs.Stored.{Stored}
@@ -40,29 +40,41 @@ array-state σ e =
       R₂ = (ap (λ (n : ℕ). (σ .cells ++ (σ .R₁ ∷ σ .R₂ ∷ [])) ⟨ n + 1 ⟩) (sym e) ∙ getD-append-add (σ .cells) (σ .R₁ ∷ σ .R₂ ∷ []) 1 0) i;
     }
 
--- tag states: what every struct of the code fits, by the types of its fields
-pub record Fit (s : Stored) : Type 0 where
-  pub cells : length (s .generator .cells) ≡ 16
-  pub words : (k : ℕ) → k < 18 → arrayOf (s .generator) ⟨ k ⟩ < 2 ^ 32
-  pub key : length (s .key) ≡ 4
-  pub tag : length (s .tag) ≡ 2
-  pub rem : length (s .rem) ≡ 16
-  pub bytes : (k : ℕ) → k < 16 → s .rem ⟨ k ⟩ < 2 ^ 8
-
 pub array-length : (σ : State) → length (σ .cells) ≡ 16 → length (arrayOf σ) ≡ 18
 unfolding arrayOf
 array-length σ e = length-append (σ .cells) (σ .R₁ ∷ σ .R₂ ∷ []) ∙ ap (λ (n : ℕ). n + 2) e
 
+-- a number out of two lists, by what holds of each entry of both and of 0
+append-fits : (P : ℕ → Type 0) (xs ys : List ℕ) → ((k : ℕ) → P (xs ⟨ k ⟩)) → ((k : ℕ) → P (ys ⟨ k ⟩)) → (k : ℕ) → P ((xs ++ ys) ⟨ k ⟩)
+append-fits P [] ys px py k = py k
+append-fits P (x ∷ xs) ys px py zero = px 0
+append-fits P (x ∷ xs) ys px py (suc k) = append-fits P xs ys (λ j. px (suc j)) py k
+
+-- what holds of every struct by the types of its fields
+pub record Fit (s : Stored) : Type 0 where
+  pub cells-full : length (s .generator .cells) ≡ 16
+  pub cells : (k : ℕ) → s .generator .cells ⟨ k ⟩ < 2 ^ 32
+  pub R₁ : s .generator .R₁ < 2 ^ 32
+  pub R₂ : s .generator .R₂ < 2 ^ 32
+  pub key-full : length (s .key) ≡ 4
+  pub tag-full : length (s .tag) ≡ 2
+  pub rem-full : length (s .rem) ≡ 16
+  pub rem : (k : ℕ) → s .rem ⟨ k ⟩ < 2 ^ 8
+
+registers-fit : (a b : ℕ) → a < 2 ^ 32 → b < 2 ^ 32 → (k : ℕ) → (a ∷ b ∷ []) ⟨ k ⟩ < 2 ^ 32
+registers-fit a b ha hb zero = ha
+registers-fit a b ha hb (suc zero) = hb
+registers-fit a b ha hb (suc (suc k)) = lit< tt
+
 pub array-stored : (s : Stored) → Fit s → storedIn (tagArrayOf s) ≡ s
-unfolding tagArrayOf storedIn regrouped listed
+unfolding tagArrayOf storedIn arrayOf regrouped listed
 array-stored s fit =
     (λ i. storedIn (tagArrayOf (record { generator = g; key = sym key i; tag = sym tag i; rem = s .rem; cnt = s .cnt; width = s .width })))
     ∙ (λ i. record {
-      generator =
-          (ap stateIn (regrouped-back 32 64 9 18 (lit< tt) (lit< tt) refl (arrayOf g) (array-length g (fit .cells)) (fit .words)) ∙ array-state g (fit .cells)) i;
+      generator = (ap stateIn words ∙ array-state g (fit .cells-full)) i;
       key = key i;
       tag = tag i;
-      rem = regrouped-back 8 64 2 16 (lit< tt) (lit< tt) refl (s .rem) (fit .rem) (fit .bytes) i;
+      rem = regrouped-back 8 64 2 16 (lit< tt) (lit< tt) refl (s .rem) (fit .rem-full) (λ k h. fit .rem k) i;
       cnt = s .cnt;
       width = s .width;
     })
@@ -71,10 +83,15 @@ array-stored s fit =
     g = s .generator
 
     key : listed (λ k. s .key ⟨ k ⟩) 0 4 ≡ s .key
-    key = all-listed (s .key) 4 (fit .key)
+    key = all-listed (s .key) 4 (fit .key-full)
 
     tag : listed (λ k. s .tag ⟨ k ⟩) 0 2 ≡ s .tag
-    tag = all-listed (s .tag) 2 (fit .tag)
+    tag = all-listed (s .tag) 2 (fit .tag-full)
+
+    words : regrouped 64 32 18 (regrouped 32 64 9 (arrayOf g)) ≡ arrayOf g
+    words =
+        regrouped-back 32 64 9 18 (lit< tt) (lit< tt) refl (arrayOf g) (array-length g (fit .cells-full))
+        (λ k h. append-fits (λ (x : ℕ). x < 2 ^ 32) (g .cells) (g .R₁ ∷ g .R₂ ∷ []) (fit .cells) (registers-fit (g .R₁) (g .R₂) (fit .R₁) (fit .R₂)) k)
 
 -- a part of an array grouped anew and back, in numbers of 64 bits
 part-back : (n c d from : ℕ) → 0 < n → c * n ≡ d * 64 → (a : List ℕ) → from + d ≤ length a → ((k : ℕ) → k < length a → a ⟨ k ⟩ < 2 ^ 64)

@@ -1,9 +1,9 @@
 -- Laws of numbers whose bits are grouped anew: entry by entry, and back again; by the bits of windows.
 use borrow.Author.Count.{below-none}
 use lib.Arith.{digits-div, digits-lt, digits-mod}
-use lib.ListN.{getD, length, length-set, set}
+use lib.ListN.{length, length-set, set}
 use mathlib.Core.List.{List}
-use mathlib.Core.Path.{_≡_, refl, sym, ap, ap₂, _∙_, subst}
+use mathlib.Core.Path.{_≡_, sym, ap, ap₂, _∙_, subst}
 use native.Mathlib.Nat.{add-assoc, add-mul, div-add-mod', div-lt-iff-lt-mul, mod-lt, mul-assoc, mul-comm, one-mul, zero-add}
 use native.Mathlib.Omega.{arith}
 use Prim.Native.Nat.{ℕ, _+_, _-_, _*_, _/_, _%_, _^_, _<_, _≤_}

@@ -1,33 +1,24 @@
-// Generators: starts, draws and masks.
+// Generators: starts, draws and masks. Each export reads the array as a state, makes the inner call, and writes back what it hands
+// back: on a refusal that is the state as it came.
 ghost use mathlib.Core.List.{List};
 ghost use mathlib.Core.Path.{_≡_};
 ghost use Prim.Native.Nat.{ℕ};
 ghost use Rattle.capi.specs.Arrays.{stateIn};
 ghost use Rattle.capi.specs.Generators.{drawArray, maskArray, startArray, wordsArray};
 ghost use Rattle.keystream.specs.Draws.{drawNumber, drawOutcome, drawWord, fillNumber, fillOutcome};
-ghost use Rattle.keystream.specs.Starts.{startNumber, startTold, start₁₂₈, start₂₅₆, start-EEA3};
+ghost use Rattle.keystream.specs.Starts.{startTold, start₁₂₈, start₂₅₆, start-EEA3};
 ghost use Rattle.mask.specs.Outcome.{cleanOutcome, countOf, crateOutcome, numberOf, told};
 ghost use Rattle.standard.specs.Loading.{d-keystream};
-use super::arrays::array_of;
-use super::arrays::state_in;
+use super::array_of;
+use super::start_number;
+use super::state_in;
 use keystream::DrawAnswer;
 use keystream::FillAnswer;
 use keystream::Start;
-use keystream::StartAnswer;
 use mask::MaskAnswer;
 use mask::Masked;
 
-pub fn start_number(answer: StartAnswer) -> u32
-    ensures { λ r. ⌜ r ≡ startNumber answer ⌝ }
-{
-    match answer {
-        StartAnswer::Started => 0,
-        StartAnswer::BadWidth => 1,
-        StartAnswer::BadKey => 2,
-        StartAnswer::BadIv => 3,
-    }
-}
-
+// Document 01's number of each answer, and what else an answer holds.
 fn draw_number(answer: DrawAnswer) -> u32
     ensures { λ r. ⌜ r ≡ drawNumber answer ⌝ }
 {
@@ -85,6 +76,7 @@ fn put_start(state: &mut [u32; 18], start: Start) -> u32
     start_number(answer)
 }
 
+// A ZUC-128 generator, or refusal 2 or 3.
 #[no_mangle]
 pub extern "C" fn zuc128_start(state: &mut [u32; 18], key: &[u8], iv: &[u8]) -> u32
     ensures { λ r. ⌜ record { number = r; array = now (state .exit) } ≡ startArray (start₁₂₈ (now (key .entry)) (now (iv .entry))) ⌝ }
@@ -92,6 +84,7 @@ pub extern "C" fn zuc128_start(state: &mut [u32; 18], key: &[u8], iv: &[u8]) -> 
     put_start(state, keystream::zuc128::new(key, iv))
 }
 
+// A ZUC-256 generator, or refusal 2 or 3.
 #[no_mangle]
 pub extern "C" fn zuc256_start(state: &mut [u32; 18], key: &[u8], iv: &[u8]) -> u32
     ensures { λ r. ⌜ record { number = r; array = now (state .exit) } ≡ startArray (start₂₅₆ d-keystream (now (key .entry)) (now (iv .entry))) ⌝ }
@@ -99,6 +92,7 @@ pub extern "C" fn zuc256_start(state: &mut [u32; 18], key: &[u8], iv: &[u8]) -> 
     put_start(state, keystream::zuc256::new(key, iv))
 }
 
+// A generator of the EEA3 keystream, or refusal 2.
 #[no_mangle]
 pub extern "C" fn eea3_start(
     state: &mut [u32; 18],
@@ -112,6 +106,7 @@ pub extern "C" fn eea3_start(
     put_start(state, keystream::eea3::new(count, bearer, direction, key))
 }
 
+// The next word, or refusal 4.
 #[no_mangle]
 pub extern "C" fn zuc_draw(state: &mut [u32; 18], word: &mut u32) -> u32
     ensures { λ r. ⌜ record { number = r; word = now (word .exit); array = now (state .exit) } ≡ drawArray (drawOutcome (stateIn (now (state .entry)))) ⌝ }
@@ -124,6 +119,7 @@ pub extern "C" fn zuc_draw(state: &mut [u32; 18], word: &mut u32) -> u32
     draw_number(answer)
 }
 
+// The next words, as many as are lent, or refusal 4.
 #[no_mangle]
 pub extern "C" fn zuc_words(state: &mut [u32; 18], out: &mut [u32]) -> u32
     ensures { λ r. ⌜ record { number = r; array = now (state .exit); buffer = now (out .exit) } ≡ wordsArray (fillOutcome (stateIn (now (state .entry))) (now (out .entry))) ⌝ }
@@ -146,6 +142,7 @@ fn put_mask(masked: Masked, state: &mut [u32; 18], count: &mut usize) -> u32
     mask_number(answer)
 }
 
+// A mask as the crate does it, or refusal 4 or 5.
 #[no_mangle]
 pub extern "C" fn zuc_mask_crate(
     state: &mut [u32; 18],
@@ -159,6 +156,7 @@ pub extern "C" fn zuc_mask_crate(
     put_mask(masked, state, count)
 }
 
+// A mask with every bit past the length zeroed, or refusal 4 or 5.
 #[no_mangle]
 pub extern "C" fn zuc_mask_clean(
     state: &mut [u32; 18],

@@ -1,13 +1,13 @@
-// Tags: starts, updates, closings and one-shots.
+// Tags: starts, updates, closings and one-shots, as in generators.rt.
 ghost use mathlib.Core.Path.{_≡_};
 ghost use Rattle.capi.specs.Arrays.{storedIn};
 ghost use Rattle.capi.specs.Tags.{closingArray, tagArray, twoClosing, twoOnce};
 ghost use Rattle.keystream.specs.Starts.{startNumber};
 ghost use Rattle.mac.specs.Calls.{finishOutcome-128, finishOutcome-256, formed-128, onceOutcome-128, onceOutcome-256, onceOutcome-EIA3, onceTold-128, onceTold-256, startOutcome-128, startOutcome-256, startOutcome-EIA3, tagList, tagNumber-128, tagNumber-256, tagWord, updateNumber, updateOutcome};
 ghost use Rattle.registers.specs.Stored.{formed, storedOf};
-use super::arrays::tag_array_of;
-use super::arrays::tag_state_in;
-use super::generators::start_number;
+use super::start_number;
+use super::tag_array_of;
+use super::tag_state_in;
 use keystream::StartAnswer;
 use mac::Mac128;
 use mac::Mac256;
@@ -18,6 +18,7 @@ use mac::Tag256;
 use mac::UpdateAnswer;
 use registers::TagState;
 
+// Document 01's number of each answer, and the tag that an answer holds.
 fn update_number(answer: UpdateAnswer) -> u32
     ensures { λ r. ⌜ r ≡ updateNumber answer ⌝ }
 {
@@ -121,6 +122,7 @@ fn put_start(state: &mut [u64; 19], answer: StartAnswer, s: TagState) -> u32
     start_number(answer)
 }
 
+// A ZUC-128 tag state, or refusal 2 or 3.
 #[no_mangle]
 pub extern "C" fn zuc128_tag_start(state: &mut [u64; 19], key: &[u8], iv: &[u8]) -> u32
     ensures { λ r. ⌜ record { number = r; array = now (state .exit) } ≡ tagArray (startOutcome-128 (now (key .entry)) (now (iv .entry))) ⌝ }
@@ -132,6 +134,7 @@ pub extern "C" fn zuc128_tag_start(state: &mut [u64; 19], key: &[u8], iv: &[u8])
     put_start(state, answer, s)
 }
 
+// An EIA3 tag state, or refusal 2.
 #[no_mangle]
 pub extern "C" fn eia3_tag_start(
     state: &mut [u64; 19],
@@ -149,6 +152,7 @@ pub extern "C" fn eia3_tag_start(
     put_start(state, answer, s)
 }
 
+// A ZUC-256 tag state of a width in bytes, or refusal 1, 2 or 3.
 #[no_mangle]
 pub extern "C" fn zuc256_tag_start(
     state: &mut [u64; 19],
@@ -173,6 +177,7 @@ fn put_update(state: &mut [u64; 19], answer: UpdateAnswer, s: TagState) -> u32
     update_number(answer)
 }
 
+// More bytes of a message, of ZUC-128 or EIA3, or refusal 4.
 #[no_mangle]
 pub extern "C" fn zuc128_tag_update(state: &mut [u64; 19], msg: &[u8]) -> u32
     ensures { λ r. ⌜ record { number = r; array = now (state .exit) } ≡ tagArray (updateOutcome (formed-128 (storedIn (now (state .entry)))) (storedIn (now (state .entry))) (now (msg .entry))) ⌝ }
@@ -185,6 +190,7 @@ pub extern "C" fn zuc128_tag_update(state: &mut [u64; 19], msg: &[u8]) -> u32
     put_update(state, answer, s)
 }
 
+// More bytes of a message, of ZUC-256, or refusal 4.
 #[no_mangle]
 pub extern "C" fn zuc256_tag_update(state: &mut [u64; 19], msg: &[u8]) -> u32
     ensures { λ r. ⌜ record { number = r; array = now (state .exit) } ≡ tagArray (updateOutcome (formed (storedIn (now (state .entry)))) (storedIn (now (state .entry))) (now (msg .entry))) ⌝ }
@@ -197,6 +203,7 @@ pub extern "C" fn zuc256_tag_update(state: &mut [u64; 19], msg: &[u8]) -> u32
     put_update(state, answer, s)
 }
 
+// The tag of ZUC-128 or EIA3, and a state of zeros, or refusal 4 or 5.
 #[no_mangle]
 pub extern "C" fn zuc128_tag_finish(
     state: &mut [u64; 19],
@@ -216,6 +223,7 @@ pub extern "C" fn zuc128_tag_finish(
     number_128(answer)
 }
 
+// The tag of ZUC-256, and a state of zeros, or refusal 4 or 5.
 #[no_mangle]
 pub extern "C" fn zuc256_tag_finish(
     state: &mut [u64; 19],
@@ -243,6 +251,7 @@ fn put_once_128(answer: Once128, tag: &mut [u64; 2]) -> u32
     once_number_128(answer)
 }
 
+// A ZUC-128 tag at once, or refusal 2, 3 or 5.
 #[no_mangle]
 pub extern "C" fn zuc128_tag(
     key: &[u8],
@@ -256,6 +265,7 @@ pub extern "C" fn zuc128_tag(
     put_once_128(mac::zuc128::compute(key, iv, msg, bits), tag)
 }
 
+// An EIA3 tag at once, or refusal 2 or 5.
 #[no_mangle]
 pub extern "C" fn eia3_tag(
     count: u32,
@@ -274,6 +284,7 @@ pub extern "C" fn eia3_tag(
     )
 }
 
+// A ZUC-256 tag at once, or refusal 1, 2, 3 or 5.
 #[no_mangle]
 pub extern "C" fn zuc256_tag(
     width: usize,

@@ -7,7 +7,7 @@ use borrow.Fn.World.{ArgsD, ResD, World, w₀}
 use contract.Lifetimes.{Lfts}
 use denote.Ref.{now}
 use denote.Triple.Clauses.{AtExit}
-use mathlib.Core.Path.{_≡_, _∙_, ap, ap₂, refl, sym}
+use mathlib.Core.Path.{_≡_, _∙_, ap, refl, sym}
 use Prim.Native.Nat.{ℕ, zero, suc}
 use Rattle.keystream.proofs.eea3.new as eea3
 use Rattle.keystream.proofs.eea3.new.Kinds as eea3-kinds
@@ -33,7 +33,6 @@ use Rattle.keystream.specs.declared.DrawAnswer.the-variants.{Word, Malfo
 use Rattle.keystream.specs.declared.Drew.{Drew}
 use Rattle.keystream.specs.declared.FillAnswer.{FillAnswer}
 use Rattle.keystream.specs.declared.FillAnswer.the-variants.{Filled, Unfilled}
-use Rattle.keystream.specs.declared.Filling.{Filling}
 use Rattle.keystream.specs.declared.Start.{Start}
 use Rattle.keystream.specs.declared.StartAnswer.{StartAnswer}
 use Rattle.keystream.specs.declared.StartAnswer.the-variants.{Started, BadWidth, BadKey, BadIv}

@@ -5,7 +5,7 @@ use Rattle.capi.proofs.generators.put_mask.Tie as tie
 
 returns : tie.Need-returns
 returns c buffer =
-    λ i. record { number = c .mask-number .ensures i; count = c .before .mask-count .ensures i; array = c .before .before .array-of .ensures i; buffer = buffer }
+    λ i. record { number = c .mask-number .ensures i; count = c .before .mask-count .ensures i; array = c .before .before .array-of .ensures .0 i; buffer = buffer }
 
 pub put-mask-spec : {M : Type 1} → statement M
 put-mask-spec =

@@ -10,8 +10,8 @@ returns : tie.Need-returns
 returns c =
     let put = c .before .before in
     let drew = put .before .before in
-    (λ i. record { number = c .draw-number .ensures i; word = c .before .draw-word .ensures i; array = put .array-of .ensures i })
-    ∙ ap drawArray (drew .generate .ensures ∙ ap drawOutcome (drew .before .state-in .ensures))
+    (λ i. record { number = c .draw-number .ensures i; word = c .before .draw-word .ensures i; array = put .array-of .ensures .0 i })
+    ∙ ap drawArray (drew .generate .ensures ∙ ap drawOutcome (drew .before .state-in .ensures .0))
 
 pub zuc-draw-spec : {M : Type 1} → statement M
 zuc-draw-spec =

@@ -13,8 +13,8 @@ returns c =
     let put = c .before in
     let filled = put .before .before .before .before in
     let start = filled .before .before .before .before .before in
-    (λ i. record { number = c .fill-number .ensures i; array = put .array-of .ensures i; buffer = filled .fill .last .1 .0 })
-    ∙ ap wordsArray (filled .fill .ensures ∙ ap (λ (σ : State). fillOutcome σ (now (start .args .out))) (filled .before .before .state-in .ensures))
+    (λ i. record { number = c .fill-number .ensures i; array = put .array-of .ensures .0 i; buffer = filled .fill .last .1 .0 })
+    ∙ ap wordsArray (filled .fill .ensures ∙ ap (λ (σ : State). fillOutcome σ (now (start .args .out))) (filled .before .before .state-in .ensures .0))
 
 pub zuc-words-spec : {M : Type 1} → statement M
 zuc-words-spec =

@@ -4,7 +4,7 @@ use Rattle.capi.proofs.tags.put_start.Statement.{statement}
 use Rattle.capi.proofs.tags.put_start.Tie as tie
 
 returns : tie.Need-returns
-returns c = λ i. record { number = c .start-number .ensures i; array = c .before .tag-array-of .ensures i }
+returns c = λ i. record { number = c .start-number .ensures i; array = c .before .tag-array-of .ensures .0 i }
 
 pub put-start-spec : {M : Type 1} → statement M
 put-start-spec =

@@ -4,7 +4,7 @@ use Rattle.capi.proofs.tags.put_update.Statement.{statement}
 use Rattle.capi.proofs.tags.put_update.Tie as tie
 
 returns : tie.Need-returns
-returns c = λ i. record { number = c .update-number .ensures i; array = c .before .tag-array-of .ensures i }
+returns c = λ i. record { number = c .update-number .ensures i; array = c .before .tag-array-of .ensures .0 i }
 
 pub put-update-spec : {M : Type 1} → statement M
 put-update-spec =

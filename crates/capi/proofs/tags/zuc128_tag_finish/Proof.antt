@@ -14,9 +14,9 @@ returns c =
     let put = word .before in
     let finish = put .before .before .before in
     let a = finish .before .before .before .before .args in
-    (λ i. record { number = c .number-128 .ensures i; tag = two (word .tag-word .ensures i); array = put .tag-array-of .ensures i })
+    (λ i. record { number = c .number-128 .ensures i; tag = two (word .tag-word .ensures i); array = put .tag-array-of .ensures .0 i })
     ∙ ap (λ o. closingArray (twoClosing o))
-    (finish .finish .ensures ∙ ap (λ (s : Stored). finishOutcome-128 s (now (a .tail)) (a .bits)) (finish .before .tag-state-in .ensures))
+    (finish .finish .ensures ∙ ap (λ (s : Stored). finishOutcome-128 s (now (a .tail)) (a .bits)) (finish .before .tag-state-in .ensures .0))
 
 pub zuc128-tag-finish-spec : {M : Type 1} → statement M
 zuc128-tag-finish-spec =

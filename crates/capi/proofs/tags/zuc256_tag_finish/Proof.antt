@@ -14,8 +14,8 @@ returns c =
     let put = words .before in
     let finish = put .before .before .before in
     let a = finish .before .before .before .before .args in
-    (λ i. record { number = c .number-256 .ensures i; tag = words .tag-words .ensures i; array = put .tag-array-of .ensures i })
-    ∙ ap closingArray (finish .finish .ensures ∙ ap (λ (s : Stored). finishOutcome-256 s (now (a .tail)) (a .bits)) (finish .before .tag-state-in .ensures))
+    (λ i. record { number = c .number-256 .ensures i; tag = words .tag-words .ensures i; array = put .tag-array-of .ensures .0 i })
+    ∙ ap closingArray (finish .finish .ensures ∙ ap (λ (s : Stored). finishOutcome-256 s (now (a .tail)) (a .bits)) (finish .before .tag-state-in .ensures .0))
 
 pub zuc256-tag-finish-spec : {M : Type 1} → statement M
 zuc256-tag-finish-spec =

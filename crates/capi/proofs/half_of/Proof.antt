@@ -2,8 +2,8 @@
 use native.Mathlib.Omega.{arith}
 use Rattle.capi.proofs.Regrouped.{cut-of}
 use borrow.Author.Needs.{needs}
-use Rattle.capi.proofs.arrays.half_of.Statement.{statement}
-use Rattle.capi.proofs.arrays.half_of.Tie as tie
+use Rattle.capi.proofs.half_of.Statement.{statement}
+use Rattle.capi.proofs.half_of.Tie as tie
 
 returns : tie.Need-returns
 returns c = cut-of 64 32 (c .args .word) (c .args .k) (omega arith)

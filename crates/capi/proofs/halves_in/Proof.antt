@@ -8,8 +8,8 @@ use Rattle.capi.proofs.Regrouped.{Filled, all-filled, cut-filled, cuts,
 use Rattle.capi.specs.Arrays.{regrouped}
 use Rattle.standard.specs.Bits.{bitOf, window}
 use borrow.Author.Needs.{needs}
-use Rattle.capi.proofs.arrays.halves_in.Statement.{statement}
-use Rattle.capi.proofs.arrays.halves_in.Tie as tie
+use Rattle.capi.proofs.halves_in.Statement.{statement}
+use Rattle.capi.proofs.halves_in.Tie as tie
 
 abbrev Inv-loop : tie.InvT-loop
 Inv-loop a halves₀ i₀ halves i = Filled (cuts 2 32 (take 9 a)) 18 i halves

@@ -8,8 +8,8 @@ use Rattle.capi.proofs.Regrouped.{Filled, all-filled, cut-filled, cuts,
 use Rattle.capi.specs.Arrays.{regrouped}
 use Rattle.standard.specs.Bits.{bitOf, window}
 use borrow.Author.Needs.{needs}
-use Rattle.capi.proofs.arrays.bytes_in.Statement.{statement}
-use Rattle.capi.proofs.arrays.bytes_in.Tie as tie
+use Rattle.capi.proofs.bytes_in.Statement.{statement}
+use Rattle.capi.proofs.bytes_in.Tie as tie
 
 abbrev Inv-loop : tie.InvT-loop
 Inv-loop a bytes₀ i₀ bytes i = Filled (cuts 8 8 (take 2 (drop 15 a))) 16 i bytes

@@ -11,8 +11,8 @@ use Rattle.capi.specs.Arrays.{regrouped}
 use Rattle.standard.specs.Bits.{bitAt, window}
 use Rattle.standard.specs.Generator.{_⟨_⟩}
 use borrow.Author.Needs.{needs}
-use Rattle.capi.proofs.arrays.words_of.Statement.{statement}
-use Rattle.capi.proofs.arrays.words_of.Tie as tie
+use Rattle.capi.proofs.words_of.Statement.{statement}
+use Rattle.capi.proofs.words_of.Tie as tie
 
 abbrev entry : List ℕ → ℕ → ℕ
 entry a j = window (bitAt 32 (λ i. a ⟨ i ⟩)) (j * 64) 64
