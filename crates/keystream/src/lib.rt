@@ -1,10 +1,8 @@
 // The public keystream: starts (in the modules), a draw, and a buffer of words.
-ghost use lib.ListN.{length};
 ghost use mathlib.Core.Path.{_≡_};
 ghost use Rattle.keystream.specs.Draws.{drawTold, drawOutcome, fillTold, fillOutcome};
 ghost use Rattle.keystream.specs.Starts.{begun, startTold, startNumber};
-ghost use Rattle.standard.specs.Generator.{Cells, after, wordAt, zeros};
-ghost use Rattle.standard.specs.Loading.{listed};
+ghost use Rattle.standard.specs.Generator.{Cells, zeros};
 ghost use Rattle.zuc.specs.Reading.{stateOf};
 use zuc::Zuc;
 use zuc::boxes::S0;
@@ -109,24 +107,6 @@ pub fn generate_in_place(g: &mut Zuc) -> DrawAnswer
     drew.answer
 }
 
-// A buffer filled with words. It calls the parts of a draw, which are then inlined here.
-fn words_into(state: Zuc, buffer: &mut [u32]) -> Zuc
-    requires { ⌜ Cells (stateOf state .cells) ⌝ }
-    ensures { λ r. ⌜ (stateOf r ≡ after (length (now (buffer .entry))) (stateOf state)) × (now (buffer .exit) ≡ listed (wordAt (stateOf state)) 0 (length (now (buffer .entry)))) ⌝ }
-{
-    let t0 = S0;
-    let t1 = S1;
-    let mut z = state;
-    for i in 0..buffer.len() {
-        let moved = zuc::shift(z);
-        let out = zuc::f(&t0, &t1, moved);
-        buffer[i] = out.word ^ zuc::x3(moved);
-        let next = out.next;
-        z = next;
-    }
-    z
-}
-
 // The next words of the keystream, as many as the buffer holds.
 pub fn fill(state: Zuc, buffer: &mut [u32]) -> Filling
     ensures { λ r. ⌜ fillTold r (now (buffer .exit)) ≡ fillOutcome (stateOf state) (now (buffer .entry)) ⌝ }
@@ -137,7 +117,9 @@ pub fn fill(state: Zuc, buffer: &mut [u32]) -> Filling
             state,
         };
     }
-    let next = words_into(state, buffer);
+    let t0 = S0;
+    let t1 = S1;
+    let next = zuc::run::words_into(&t0, &t1, state, buffer);
     Filling {
         answer: FillAnswer::Filled,
         state: next,

@@ -526,7 +526,7 @@ pub const S1: [u8; 256] = [
 ];
 
 // The entry of a box at a byte.
-fn entry(table: &[u8; 256], b: u8) -> u8
+pub fn entry(table: &[u8; 256], b: u8) -> u8
     ensures { λ r. ⌜ r ≡ getD (now (table .entry)) b 0 ⌝ }
 {
     table[b as usize]
