@@ -1,6 +1,6 @@
--- A word masks the bytes of the part lent at its place, byte by byte or as one number; a draw moves the state on by one.
+-- Words mask the bytes of the part lent at their place, byte by byte or as one number; a draw moves the state on by one.
 use mathlib.Core.List.{List, [], _∷_, _++_}
-use mathlib.Core.Path.{_≡_, sym, ap, ap₂, _∙_, subst}
+use mathlib.Core.Path.{_≡_, sym, ap, ap₂, _∙_}
 use Prim.Native.Nat.{ℕ, _+_, _-_, _*_, _/_, _%_, _^_, _<_, _≤_}
 use native.Mathlib.Nat.{mod-eq-of-lt}
 use native.Mathlib.Numerals.{add-one}
@@ -8,10 +8,10 @@ use native.Mathlib.Omega.{arith}
 use lib.Bits.{xor-shr, xor-mod}
 use lib.ListN.{length, getD, take, drop, set, length-take}
 use Rattle.standard.specs.Confidentiality.{eachFrom, masked, byteOf}
-use Rattle.standard.specs.Generator.{State, F, W, X₃, Z, after, wordAt, word, workStep, next}
+use Rattle.standard.specs.Generator.{State, after, next, wordAt}
 use Rattle.standard.specs.Notation.{_⊕_, _‖₈_}
 use Rattle.standard.proofs.Each.{each-ext, doneFrom, from-lent}
-use Rattle.standard.proofs.Generator.{Sound, sound-after, after-more, word-after}
+use Rattle.standard.proofs.Generator.{after-more}
 
 byte-xor : (a b j : ℕ) → byteOf (a ⊕ b) j ≡ byteOf a j ⊕ byteOf b j
 unfolding byteOf
@@ -40,38 +40,28 @@ four-stored f (w ∷ x ∷ []) a b c d h p q r s = absurd (omega arith)
 four-stored f (w ∷ x ∷ y ∷ []) a b c d h p q r s = absurd (omega arith)
 four-stored f (w ∷ x ∷ y ∷ z ∷ v ∷ l) a b c d h p q r s = absurd (omega arith)
 
--- a draw in its parts, from the stepped state
-pub parts-word : (τ m : State) → m ≡ workStep τ → W m ⊕ X₃ (m .cells) ≡ word τ
-unfolding word Z
-parts-word τ m e = ap Z e
+-- a draw after k
+pub turn-state : (σ τ : State) (k n : ℕ) → τ ≡ after k σ → k + 1 ≡ n → next τ ≡ after n σ
+turn-state σ τ k n e m = ap next e ∙ sym (after-more k σ) ∙ ap (λ (j : ℕ). after j σ) (sym (add-one k) ∙ m)
 
-pub parts-next : (τ m : State) → m ≡ workStep τ → F m ≡ next τ
-unfolding next
-parts-next τ m e = ap F e
-
--- at byte i, a multiple of 4, in the state τ after i/4 draws
-module _ (σ τ : State) (i : ℕ) (whole : i % 4 ≡ 0) (e : τ ≡ after (i / 4) σ) where
-  pub turn-sound : Sound σ → Sound τ
-  turn-sound s = subst Sound (sym e) (sound-after (i / 4) σ s)
-
-  pub turn-state : (n : ℕ) → i / 4 + 1 ≡ n → next τ ≡ after n σ
-  turn-state n m = ap next e ∙ sym (after-more (i / 4) σ) ∙ ap (λ (k : ℕ). after k σ) (sym (add-one (i / 4)) ∙ m)
-
-  -- the word of τ masks the bytes from i to an end at most four further
-  place : (j w byte : ℕ) → j < 4 → w ≡ word τ → masked (λ n. w) (0 + j) byte ≡ masked (wordAt σ) (i + j) byte
+-- a part lent from byte i, where word k begins, to an end, and masked with words that are those from k on
+module _ (σ : State) (k i end : ℕ) (start : i ≡ 4 * k) where
+  place : (ws : ℕ → ℕ) (j byte : ℕ) → ws (j / 4) ≡ wordAt σ (k + j / 4) → masked ws (0 + j) byte ≡ masked (wordAt σ) (i + j) byte
   unfolding masked
-  place j w byte h v = ap₂ (λ (x y : ℕ). byte ⊕ byteOf x y) (v ∙ ap word e ∙ word-after (i / 4) σ ∙ ap (wordAt σ) (omega arith)) (omega arith)
+  place ws j byte e =
+      ap₂ (λ (x y : ℕ). byte ⊕ byteOf x y) (ap ws (omega arith) ∙ e ∙ ap (wordAt σ) (omega arith)) (omega arith)
 
-  pub turn-masked : (end w : ℕ) (l ys : List ℕ) → w ≡ word τ → i ≤ end → end ≤ length l → end - i ≤ 4
-      → ys ≡ eachFrom (masked (λ n. w)) 0 (take (end - i) (drop i l))
-      → doneFrom (masked (wordAt σ)) end (take i l ++ (ys ++ drop (end - i) (drop i l))) ≡ doneFrom (masked (wordAt σ)) i l
-  turn-masked end w l ys v a b short m =
+  pub turn-masked : (ws : ℕ → ℕ) (l ys : List ℕ) (to : ℕ) → to ≡ i + (end - i) → to ≤ length l → ((n : ℕ) → 4 * n < end - i → ws n ≡ wordAt σ (k + n))
+      → ys ≡ eachFrom (masked ws) 0 (take (end - i) (drop i l))
+      → doneFrom (masked (wordAt σ)) to (take i l ++ (ys ++ drop (end - i) (drop i l))) ≡ doneFrom (masked (wordAt σ)) i l
+  turn-masked ws l ys to at b same m =
       ap (λ (x : ℕ). doneFrom (masked (wordAt σ)) x (take i l ++ (ys ++ drop (end - i) (drop i l)))) at
       ∙ from-lent (masked (wordAt σ)) i (end - i) l ys (omega arith)
-      (m ∙ each-ext (masked (λ n. w)) (masked (wordAt σ)) 0 i part (λ j h. place j w (getD part j 0) (omega (arith, length-take (end - i) (drop i l))) v))
+      (m ∙ each-ext (masked ws) (masked (wordAt σ)) 0 i part (λ j h. place ws j (getD part j 0) (same (j / 4) (omega (arith, length-take (end - i) (drop i l))))))
     where
       part : List ℕ
       part = take (end - i) (drop i l)
 
-      at : end ≡ i + (end - i)
-      at = omega arith
+  -- at most four bytes take one word
+  pub alone : {w : ℕ} → w ≡ wordAt σ k → end - i ≤ 4 → (n : ℕ) → 4 * n < end - i → w ≡ wordAt σ (k + n)
+  alone e short n h = e ∙ ap (wordAt σ) (omega arith)

@@ -1,6 +1,6 @@
 // Masking in place by bit length (the crate's internal/stream_cipher.rs), in the crate's mode and in clean mode.
 ghost use mathlib.Core.Path.{_≡_};
-ghost use Prim.Native.Nat.{_≤_, _*_, _+_, _/_};
+ghost use Prim.Native.Nat.{_≤_, _*_, _+_, _/_, _%_};
 ghost use lib.ListN.{length};
 ghost use Rattle.mask.specs.Clearing.{zeroed, cleared};
 ghost use Rattle.mask.specs.Outcome.{told, outcomeTo, crateOutcome, cleanOutcome};
@@ -8,9 +8,20 @@ ghost use Rattle.standard.specs.Boxes.{S₀-table, S₁-table};
 ghost use Rattle.standard.specs.Confidentiality.{eachFrom, keepHigh, masked, wordsToMask};
 ghost use Rattle.standard.specs.Generator.{Cells, after, wordAt};
 ghost use Rattle.zuc.specs.Reading.{stateOf};
+ghost use Rattle.zuc.specs.Run.{Laid, Low, Standing, raisedOf, stateAt};
 use zuc::Zuc;
 use zuc::boxes::S0;
 use zuc::boxes::S1;
+use zuc::run::Halves;
+use zuc::run::f_by_halves;
+use zuc::run::grow;
+use zuc::run::lay_state;
+use zuc::run::raised;
+use zuc::run::rewind;
+use zuc::run::smaller;
+use zuc::run::state_of;
+use zuc::run::sums_at;
+use zuc::run::word;
 
 // What a call answers: the words drawn, or why it was refused.
 pub enum MaskAnswer {
@@ -83,25 +94,52 @@ fn keep_bits(buf: &mut [u8], q: usize, k: usize)
     }
 }
 
+// Masks whole words, at most 64, in the loop that draws them: the xor is done while F is waited for. Cells and pairs are as in zuc::run.
+fn mask_block(
+    high: &[u16; 256],
+    low: &[u8; 256],
+    run: &mut [u32],
+    pairs: &mut [u32],
+    start: Halves,
+    part: &mut [u8],
+) -> Halves
+    requires { ⌜ now high ≡ raisedOf S₀-table ⌝ ∗ ⌜ now low ≡ S₁-table ⌝ ∗ ⌜ Laid (now run) (now pairs) 0 ⌝ ∗ ⌜ Low start ⌝ ∗ ⌜ (length (now part) ≤ 256) × (length (now part) % 4 ≡ 0) ⌝ }
+    ensures state { λ r. ⌜ Standing (now (run .exit)) (now (pairs .exit)) 0 r (after (length (now (part .entry)) / 4) (stateAt (now (run .entry)) 0 start)) ⌝ }
+    ensures bytes { λ r. ⌜ now (part .exit) ≡ eachFrom (masked (wordAt (stateAt (now (run .entry)) 0 start))) 0 (now (part .entry)) ⌝ }
+{
+    let mut h = start;
+    let mut sums = sums_at(run, 0);
+    let n = part.len() / 4;
+    for j in 0..n {
+        sums = grow(run, pairs, j, sums);
+        let w = word(run[j + 16], run[j + 15], h, pairs[j + 1]);
+        h = f_by_halves(high, low, h, pairs[j + 10], pairs[j + 6]);
+        let i = 4 * j;
+        let e = i + 4;
+        xor_word(w, &mut part[i..e]);
+    }
+    rewind(run, n);
+    rewind(pairs, n);
+    h
+}
+
 // Masks every byte: a word for each four bytes, then one for the bytes left over, drawn even if there are none.
 fn mask_all(t0: &[u8; 256], t1: &[u8; 256], start: Zuc, buf: &mut [u8]) -> Zuc
     requires { ⌜ now t0 ≡ S₀-table ⌝ ∗ ⌜ now t1 ≡ S₁-table ⌝ ∗ ⌜ Cells (stateOf start .cells) ⌝ }
     ensures state { λ r. ⌜ stateOf r ≡ after (wordsToMask (length (now (buf .entry)))) (stateOf start) ⌝ }
     ensures bytes { λ r. ⌜ now (buf .exit) ≡ eachFrom (masked (wordAt (stateOf start))) 0 (now (buf .entry)) ⌝ }
 {
-    let mut z = start;
+    let high = raised(t0);
+    let mut run = [0u32; 80];
+    let mut pairs = [0u32; 80];
+    let mut h = lay_state(start, &mut run, &mut pairs);
     let mut i: usize = 0;
     while 4 <= buf.len() - i {
-        // A draw in its parts, which are inlined here as a whole draw is not.
-        let moved = zuc::shift(z);
-        let out = zuc::f(t0, t1, moved);
-        let e = i + 4;
-        xor_word(out.word ^ zuc::x3(moved), &mut buf[i..e]);
-        let next = out.next;
-        z = next;
+        let e = i + 4 * smaller(64, (buf.len() - i) / 4);
+        h = mask_block(&high, t1, &mut run, &mut pairs, h, &mut buf[i..e]);
         i = e;
     }
-    let last = zuc::draw(t0, t1, z);
+    let last = zuc::draw(t0, t1, state_of(&run, h));
     xor_rest(last.word, &mut buf[i..]);
     last.next
 }
