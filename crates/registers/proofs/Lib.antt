@@ -7,5 +7,6 @@ pub mod Double
 pub mod Widths
 pub mod Packed
 pub mod Moves
+pub mod Bulk
 pub mod Last
 pub mod Ends

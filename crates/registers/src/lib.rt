@@ -19,6 +19,7 @@ use zuc::Zuc;
 
 pub mod closing;
 pub mod forms;
+pub mod narrow;
 pub mod sums;
 pub mod updates;
 

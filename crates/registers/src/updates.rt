@@ -143,6 +143,9 @@ pub fn turn(t0: &[u8; 256], t1: &[u8; 256], s: super::TagState, message: &[u8], 
     let width = s.width;
     if cnt == 0 {
         if width <= message.len() - i {
+            if width == 4 {
+                return super::narrow::blocks_32(t0, t1, s, message, i);
+            }
             return blocks(t0, t1, s, message, i);
         }
     }
