@@ -8,5 +8,6 @@ pub mod Widths
 pub mod Packed
 pub mod Moves
 pub mod Bulk
+pub mod Ahead
 pub mod Last
 pub mod Ends

@@ -18,6 +18,7 @@ use words::word_of;
 use zuc::Zuc;
 
 pub mod closing;
+pub mod drawn;
 pub mod forms;
 pub mod narrow;
 pub mod sums;

@@ -6,7 +6,9 @@ ghost use Rattle.standard.specs.Boxes.{S₀-table, S₁-table};
 ghost use Rattle.standard.specs.Generator.{Cells};
 ghost use Rattle.zuc.specs.Reading.{stateOf};
 ghost use Rattle.registers.specs.Stored.{Blocks, Held, Turned, Width, packed, storedOf, tagOf, tagWords, taggingOf};
-ghost use Rattle.registers.specs.Tagging.{absorbed, begun, begun-EIA3, begun-ZUC256, fed, updated};
+ghost use Rattle.registers.specs.Tagging.{absorbed, begun, begun-EIA3, begun-ZUC256, updated};
+use super::drawn::feed;
+use super::drawn::portion;
 use zuc::Zuc;
 
 // A state with a tag, and a key pair of fresh words: two times half a pair is moved in.
@@ -49,36 +51,12 @@ pub fn begin_256(t0: &[u8; 256], t1: &[u8; 256], width: usize, g: Zuc) -> super:
     begin(t0, t1, width, tag, next)
 }
 
-// A block.
-pub fn feed(t0: &[u8; 256], t1: &[u8; 256], s: super::TagState, block: &[u8]) -> super::TagState
-    requires { ⌜ now t0 ≡ S₀-table ⌝ ∗ ⌜ now t1 ≡ S₁-table ⌝ ∗ ⌜ Held (storedOf s) ⌝ ∗ ⌜ length (now block) ≡ s .width ⌝ }
-    ensures { λ r. ⌜ storedOf r ≡ packed (s .width) (fed (s .width * 8) (taggingOf (storedOf s)) (now (block .entry))) ⌝ }
-{
-    let width = s.width;
-    let key = s.key;
-    let tag = s.tag;
-    let g = s.g;
-    let sum = super::tag_with(width, key, tag, block);
-    let fresh = super::draw_words(t0, t1, width, g);
-    let words = fresh.words;
-    let next = fresh.next;
-    let moved = super::key_on(width, key, words);
-    super::TagState {
-        g: next,
-        key: moved,
-        tag: sum,
-        rem: [0u8; 16],
-        cnt: 0,
-        width,
-    }
-}
-
 pub struct Moved {
     pub s: super::TagState,
     pub at: usize,
 }
 
-// Whole blocks, as many as there are, where nothing waits. The one call of `feed`, which is then inlined in this loop.
+// Whole blocks, as many as there are, where nothing waits.
 pub fn blocks(
     t0: &[u8; 256],
     t1: &[u8; 256],
@@ -93,7 +71,7 @@ pub fn blocks(
     let mut s = start;
     let mut i = from;
     while width <= message.len() - i {
-        let e = i + width;
+        let e = i + portion(width, message.len() - i);
         s = feed(t0, t1, s, &message[i..e]);
         i = e;
     }
