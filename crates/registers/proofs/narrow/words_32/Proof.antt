@@ -1,7 +1,7 @@
 -- `words_32` takes in a block a turn: after j turns the run and the halves stand for the state after j draws, and 4 j bytes are in the tag.
 use lib.ListN.{length, length-drop, length-take, take}
 use lib.Seq.{take-all}
-use mathlib.Core.Path.{_≡_, refl, _∙_, ap, subst, sym}
+use mathlib.Core.Path.{_≡_, _∙_, ap, subst, sym}
 use native.Mathlib.Omega.{arith}
 use Prim.Native.Nat.{ℕ, _+_, _*_, _/_, _-_, _≤_}
 use Rattle.standard.proofs.Generator.{after-none}
