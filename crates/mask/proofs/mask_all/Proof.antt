@@ -1,6 +1,6 @@
 -- `mask_all`: at place i, a multiple of 4, the run stands for the state after i/4 words and the mask is left to do from i on; a lent part does its places.
 use lib.ListN.{drop, length, length-drop, length-take, take}
-use mathlib.Core.Path.{_≡_, refl, sym, ap, ap₂, _∙_, subst}
+use mathlib.Core.Path.{_≡_, refl, sym, ap, _∙_, subst}
 use native.Mathlib.Omega.{arith}
 use Prim.Native.Nat.{ℕ, _+_, _*_, _-_, _/_, _%_, _≤_}
 use borrow.Author.Needs.{needs}
