@@ -112,11 +112,12 @@ fn mask_block(
     let n = part.len() / 4;
     for j in 0..n {
         sums = grow(run, pairs, j, sums);
-        let w = word(run[j + 16], run[j + 15], h, pairs[j + 1]);
-        h = f_by_halves(high, low, h, pairs[j + 10], pairs[j + 6]);
+        let next = f_by_halves(high, low, h, pairs[j + 10], pairs[j + 6]);
         let i = 4 * j;
         let e = i + 4;
+        let w = word(run[j + 16], run[j + 15], h, pairs[j + 1]);
         xor_word(w, &mut part[i..e]);
+        h = next;
     }
     rewind(run, n);
     rewind(pairs, n);

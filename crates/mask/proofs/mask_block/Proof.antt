@@ -36,14 +36,14 @@ loop-holds c =
 grow-requires : tie.Need-grow-requires Inv-loop μ-loop
 grow-requires c κs = let inv = c .before .before .before .loop .inv in (inv .4 .laid, (inv .3, omega arith))
 
-word-requires : tie.Need-word-requires Inv-loop μ-loop
-word-requires c κs = c .before .before .before .before .before .before .before .before .before .before .before .loop .inv .4 .low
-
 f-by-halves-requires : tie.Need-f-by-halves-requires Inv-loop μ-loop
 f-by-halves-requires c κs =
-    let loop = c .before .before .before .before .before .before .before .before .before .before .before .before .before .before in
+    let loop = c .before .before .before .before .before .before .before .before .before .before in
     let pre = loop .before .before .before .before .before .before .pre in
     (pre .0, (pre .1 .0, loop .loop .inv .4 .low))
+
+word-requires : tie.Need-word-requires Inv-loop μ-loop
+word-requires c κs = c .before .before .before .before .before .before .before .before .before .before .before .before .before .before .loop .inv .4 .low
 
 xor-word-requires : tie.Need-xor-word-requires Inv-loop μ-loop
 xor-word-requires c κs = simp (length-take, length-drop) (omega arith)
@@ -51,9 +51,9 @@ xor-word-requires c κs = simp (length-take, length-drop) (omega arith)
 loop-again : tie.Need-loop-again Inv-loop μ-loop
 loop-again c =
     let at-xor = c .before .before in
-    let at-f = at-xor .before .before in
-    let at-word = at-f .before .before .before in
-    let at-grow = at-word .before .before .before .before .before .before .before .before in
+    let at-word = at-xor .before .before in
+    let at-f = at-word .before .before .before .before in
+    let at-grow = at-f .before .before .before .before .before .before .before in
     let turn = at-grow .before .before .before in
     let l = turn .before .loop in
     let start = turn .before .before .before .before .before .before .before in
@@ -98,4 +98,4 @@ returns c =
 pub mask-block-spec : {M : Type 1} → statement M
 mask-block-spec =
     tie.close
-    (tie.spec Inv-loop μ-loop sums-at-requires loop-holds grow-requires (λ c. omega arith) (λ c. omega arith) (λ c. omega arith) (λ c. omega arith) (λ c. omega arith) (λ c. omega arith) (λ c. omega arith) (λ c. omega arith) (λ c. omega arith) word-requires (λ c. omega arith) (λ c. omega arith) (λ c. omega arith) (λ c. omega arith) (λ c. omega arith) (λ c. omega arith) f-by-halves-requires (λ c. omega arith) (λ c. omega arith) (λ c. omega arith) (λ c. omega arith) (λ c. omega arith) xor-word-requires (λ c. omega arith) (λ c. omega arith) loop-again rewind-requires rewind-requires-2 (λ c. omega arith) (λ c. omega arith) (λ c. omega arith) returns)
+    (tie.spec Inv-loop μ-loop sums-at-requires loop-holds grow-requires (λ c. omega arith) (λ c. omega arith) (λ c. omega arith) (λ c. omega arith) (λ c. omega arith) (λ c. omega arith) f-by-halves-requires (λ c. omega arith) (λ c. omega arith) (λ c. omega arith) (λ c. omega arith) (λ c. omega arith) (λ c. omega arith) (λ c. omega arith) (λ c. omega arith) (λ c. omega arith) (λ c. omega arith) (λ c. omega arith) word-requires (λ c. omega arith) (λ c. omega arith) (λ c. omega arith) xor-word-requires (λ c. omega arith) (λ c. omega arith) loop-again rewind-requires rewind-requires-2 (λ c. omega arith) (λ c. omega arith) (λ c. omega arith) returns)
