@@ -1,6 +1,6 @@
 -- Look-ups give the tag sum T of 32 bits: four bits by their windows, and the groups by splitting the sum.
 use mathlib.Core.Path.{_≡_, refl, sym, ap, ap₂, _∙_}
-use mathlib.Core.List.{[], _∷_}
+use mathlib.Core.List.{List, [], _∷_}
 use Prim.Native.Nat.{ℕ, zero, suc, _+_, _-_, _*_, _/_, _%_, _^_, _<_, _≤_}
 use native.Mathlib.Omega.{arith}
 use native.Mathlib.Nat.{div-one, zero-add, zero-div}
@@ -15,7 +15,7 @@ use Rattle.standard.proofs.Listed.{getD-listed}
 use Rattle.standard.proofs.Sum.{sum-split}
 use Rattle.standard.proofs.Window.{window-bitOf}
 use Rattle.standard.proofs.Xor.{xor-assoc}
-use Rattle.registers.specs.Lookup.{lookedUp, multiple, multiplesOf, summed}
+use Rattle.registers.specs.Lookup.{byteLookedUp, lookedUp, multiple, multiplesOf, summed}
 
 whereSet-field : (b x q : ℕ) → whereSet b x / 2 ^ q % 2 ^ 32 ≡ whereSet b (x / 2 ^ q % 2 ^ 32)
 whereSet-field zero x q = ap (λ (y : ℕ). y % 2 ^ 32) (zero-div (2 ^ q))
@@ -82,6 +82,33 @@ looked-groups pair bits (suc k) h =
 pub looked-is : (pair bits : ℕ) → lookedUp (multiplesOf pair) bits 8 ≡ summed 32 pair bits
 unfolding summed
 looked-is pair bits = looked-groups pair bits 8 (omega arith)
+
+-- a byte's two groups after k groups
+byte-more : (table : List ℕ) (bits k b : ℕ) → bits / 2 ^ (28 - 4 * k) % 16 ≡ b / 16 → bits / 2 ^ (28 - 4 * suc k) % 16 ≡ b % 16
+    → lookedUp table bits k ⊕ byteLookedUp table b (4 * k) ≡ lookedUp table bits (suc (suc k))
+unfolding lookedUp byteLookedUp
+byte-more table bits k b e e′ =
+    sym (xor-assoc (lookedUp table bits k) _ _)
+    ∙ ap₂ (λ (n m : ℕ). lookedUp table bits k ⊕ getD table n 0 / 2 ^ (29 - 4 * k) % 2 ^ 32 ⊕ getD table m 0 / 2 ^ (25 - 4 * k) % 2 ^ 32) (sym e) (sym e′)
+    ∙ ap (λ (q : ℕ). lookedUp table bits (suc k) ⊕ getD table (bits / 2 ^ (28 - 4 * suc k) % 16) 0 / 2 ^ q % 2 ^ 32) next
+  where
+    next : 25 - 4 * k ≡ 29 - 4 * suc k
+    next = omega arith
+
+-- a word's four bytes
+pub by-bytes : (table : List ℕ) (b₀ b₁ b₂ b₃ : ℕ) → b₀ < 2 ^ 8 → b₁ < 2 ^ 8 → b₂ < 2 ^ 8 → b₃ < 2 ^ 8
+    → byteLookedUp table b₀ 0 ⊕ byteLookedUp table b₁ 8 ⊕ byteLookedUp table b₂ 16 ⊕ byteLookedUp table b₃ 24
+    ≡ lookedUp table (((b₀ * 2 ^ 8 + b₁) * 2 ^ 8 + b₂) * 2 ^ 8 + b₃) 8
+unfolding lookedUp
+by-bytes table b₀ b₁ b₂ b₃ h₀ h₁ h₂ h₃ =
+    ap (λ (x : ℕ). x ⊕ byteLookedUp table b₁ 8 ⊕ byteLookedUp table b₂ 16 ⊕ byteLookedUp table b₃ 24)
+    (sym (xor-zero-l (byteLookedUp table b₀ 0)) ∙ byte-more table word 0 b₀ (omega arith) (omega arith))
+    ∙ ap (λ (x : ℕ). x ⊕ byteLookedUp table b₂ 16 ⊕ byteLookedUp table b₃ 24) (byte-more table word 2 b₁ (omega arith) (omega arith))
+    ∙ ap (λ (x : ℕ). x ⊕ byteLookedUp table b₃ 24) (byte-more table word 4 b₂ (omega arith) (omega arith))
+    ∙ byte-more table word 6 b₃ (omega arith) (omega arith)
+  where
+    word : ℕ
+    word = ((b₀ * 2 ^ 8 + b₁) * 2 ^ 8 + b₂) * 2 ^ 8 + b₃
 
 -- the table, spelled as the code makes it
 pub spelled : (pair b c d : ℕ) → b ≡ pair / 2 → c ≡ pair / 2 ^ 2 → d ≡ pair / 2 ^ 3

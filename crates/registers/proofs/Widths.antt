@@ -86,19 +86,15 @@ module _ (w : ℕ) (k t block : List ℕ) where
   summed-8 e sum s = rw e (ap (λ (x : ℕ). (t ⟨ 0 ⟩ ⊕ x) ∷ 0 ∷ []) (s ∙ block-bits 64 (k ⟨ 0 ⟩ ‖₆₄ k ⟨ 1 ⟩) block))
 
   pub summed-16 : w ≡ 16 → (hi lo : ℕ) → t ⟨ 1 ⟩ < 2 ^ 64 → lo < 2 ^ 64
-      → hi ‖₆₄ lo ≡ summed 128 ((k ⟨ 0 ⟩ ‖₆₄ k ⟨ 1 ⟩) ‖₁₂₈ (k ⟨ 2 ⟩ ‖₆₄ k ⟨ 3 ⟩)) (window (M block) 0 64 ‖₆₄ window (M block) 64 64)
+      → hi ‖₆₄ lo ≡ summed 128 ((k ⟨ 0 ⟩ ‖₆₄ k ⟨ 1 ⟩) ‖₁₂₈ (k ⟨ 2 ⟩ ‖₆₄ k ⟨ 3 ⟩)) (window (M block) 0 128)
       → Summed ((t ⟨ 0 ⟩ ⊕ hi) ∷ (t ⟨ 1 ⟩ ⊕ lo) ∷ [])
   unfolding tagOf keyOf
   summed-16 e hi lo h h′ s =
       rw e
       (sym
-      (ap (λ (x : ℕ). tagWords 16 ((t ⟨ 0 ⟩ ‖₆₄ t ⟨ 1 ⟩) ⊕ x))
-      (sym (s ∙ ap (summed 128 key) (sym (window-split (M block) 0 64 64)) ∙ block-bits 128 key block))
+      (ap (λ (x : ℕ). tagWords 16 ((t ⟨ 0 ⟩ ‖₆₄ t ⟨ 1 ⟩) ⊕ x)) (sym (s ∙ block-bits 128 ((k ⟨ 0 ⟩ ‖₆₄ k ⟨ 1 ⟩) ‖₁₂₈ (k ⟨ 2 ⟩ ‖₆₄ k ⟨ 3 ⟩)) block))
       ∙ ap (tagWords 16) (xor-block 64 (t ⟨ 0 ⟩) hi (t ⟨ 1 ⟩) lo h h′)
       ∙ tag-words-16 (t ⟨ 0 ⟩ ⊕ hi) (t ⟨ 1 ⟩ ⊕ lo) (xor-lt 64 (t ⟨ 1 ⟩) lo h h′)))
-    where
-      key : ℕ
-      key = (k ⟨ 0 ⟩ ‖₆₄ k ⟨ 1 ⟩) ‖₁₂₈ (k ⟨ 2 ⟩ ‖₆₄ k ⟨ 3 ⟩)
 
 -- a number in two words moved up by 32 bits, and a word after it
 shifted : (a b c : ℕ) → (a ‖₆₄ b) < 2 ^ 96 → b < 2 ^ 64 → between a b ‖₆₄ (b % 2 ^ 32 * 2 ^ 32 + c) ≡ (a ‖₆₄ b) * 2 ^ 32 + c
@@ -200,3 +196,11 @@ bytes-64 m k =
   where
     place : k * 8 + 32 ≡ (k + 4) * 8
     place = omega arith
+
+-- the halves of eight bytes
+pub halves-64 : (m : List ℕ) (k : ℕ)
+    → (window (M m) (k * 8) 32 ≡ window (M m) (k * 8) 64 / 2 ^ 32) × (window (M m) ((k + 4) * 8) 32 ≡ window (M m) (k * 8) 64 % 2 ^ 32)
+halves-64 m k = (omega (arith, bytes-64 m k, small), omega (arith, bytes-64 m k, small))
+  where
+    small : window (M m) ((k + 4) * 8) 32 < 2 ^ 32
+    small = window-lt (M m) (M-lt m) ((k + 4) * 8) 32

@@ -24,6 +24,10 @@ unfoldable pub lookedUp : List ℕ → ℕ → ℕ → ℕ
 lookedUp table bits zero = 0
 lookedUp table bits (suc k) = lookedUp table bits k ⊕ getD table (bits / 2 ^ (28 - 4 * k) % 16) 0 / 2 ^ (29 - 4 * k) % 2 ^ 32
 
+-- the two groups of a byte that has `at` message bits before it
+unfoldable pub byteLookedUp : List ℕ → ℕ → ℕ → ℕ
+byteLookedUp table b at = getD table (b / 16) 0 / 2 ^ (29 - at) % 2 ^ 32 ⊕ getD table (b % 16) 0 / 2 ^ (25 - at) % 2 ^ 32
+
 -- 64 message bits, by the tables of the three neighbouring pairs in 128 bits of key
 unfoldable pub wideLookedUp : List ℕ → List ℕ → List ℕ → ℕ → ℕ
 wideLookedUp first middle last bits =

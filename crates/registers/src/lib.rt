@@ -1,5 +1,5 @@
 // The registers of a tag, for tags of 32, 64 and 128 bits.
-ghost use lib.ListN.{length, drop};
+ghost use lib.ListN.{length};
 ghost use mathlib.Core.Path.{_≡_};
 ghost use Prim.Native.Nat.{_+_, _*_, _≤_, _<_, _^_, _%_};
 ghost use Rattle.standard.specs.Bits.{M, bitOf, window};
@@ -62,17 +62,10 @@ pub fn tag_with(width: usize, key: [u64; 4], tag: [u64; 2], block: &[u8]) -> [u6
     ensures { λ r. ⌜ r ≡ tagWords width (tagOf width tag ⊕ T (width * 8) (bitOf (width * 8 + width * 8) (keyOf width key)) 0 (M (now (block .entry))) (width * 8)) ⌝ }
 {
     match width {
-        4 => [tag[0] ^ (sum_32(key[0], word_at(block, 0)) as u64), 0],
-        8 => [tag[0] ^ sum_64(key[0], key[1], wide_at(block, 0)), 0],
+        4 => [tag[0] ^ (sum_32(key[0], block, 0) as u64), 0],
+        8 => [tag[0] ^ sum_64(key[0], key[1], block), 0],
         _ => {
-            let sum = sum_128(
-                key[0],
-                key[1],
-                key[2],
-                key[3],
-                wide_at(block, 0),
-                wide_at(block, 8),
-            );
+            let sum = sum_128(key[0], key[1], key[2], key[3], block);
             [tag[0] ^ sum.hi, tag[1] ^ sum.lo]
         }
     }

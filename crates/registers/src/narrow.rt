@@ -45,7 +45,7 @@ pub fn words_32(
     for j in 0..n {
         let b = 4 * j;
         let e = b + 4;
-        tag = tag ^ super::sums::sum_32(key, super::word_at(&part[b..e], 0));
+        tag = tag ^ super::sums::sum_32(key, &part[b..e], 0);
         sums = grow(run, pairs, j, sums);
         let w = word(run[j + 16], run[j + 15], h, pairs[j + 1]);
         h = f_by_halves(high, low, h, pairs[j + 10], pairs[j + 6]);

@@ -1,7 +1,9 @@
 // The sum of a key pair's windows at the set bits of a message word, by look-ups: no branch goes by a message bit.
+ghost use lib.ListN.{length};
 ghost use mathlib.Core.Path.{_≡_};
-ghost use Prim.Native.Nat.{_+_, _*_, _^_};
-ghost use Rattle.registers.specs.Lookup.{between, lookedUp, multiplesOf, summed, wideLookedUp};
+ghost use Prim.Native.Nat.{_+_, _*_, _≤_, _^_};
+ghost use Rattle.standard.specs.Bits.{M, window};
+ghost use Rattle.registers.specs.Lookup.{between, byteLookedUp, lookedUp, multiplesOf, summed, wideLookedUp};
 ghost use Rattle.registers.specs.Stored.{_‖₆₄_, _‖₁₂₈_};
 
 // The pair's multiples by each of sixteen numbers of four bits: the bit worth 8 is the first, so it stands for the window highest up.
@@ -33,17 +35,25 @@ pub fn multiples(pair: u64) -> [u64; 16]
     ]
 }
 
-pub fn look_up(table: &[u64; 16], bits: u32) -> u32
-    ensures { λ r. ⌜ r ≡ lookedUp (now (table .entry)) bits 8 ⌝ }
+// The two groups of four bits in a byte that has `at` bits of the word before it.
+pub fn of_byte(table: &[u64; 16], b: u8, at: u32) -> u32
+    requires { ⌜ at ≤ 24 ⌝ }
+    ensures { λ r. ⌜ r ≡ byteLookedUp (now (table .entry)) b at ⌝ }
 {
-    let mut sum: u32 = 0;
-    let mut k: u32 = 0;
-    while k < 8 {
-        let n = ((bits >> (28 - 4 * k)) % 16) as usize;
-        sum = sum ^ (((table[n] >> (29 - 4 * k)) % 0x1_0000_0000) as u32);
-        k += 1;
-    }
-    sum
+    let high = table[(b >> 4) as usize] >> (29 - at);
+    let low = table[(b % 16) as usize] >> (25 - at);
+    ((high ^ low) % 0x1_0000_0000) as u32
+}
+
+// Four bytes of a block, read as bytes: a group then costs one operation less than out of a word.
+pub fn look_up(table: &[u64; 16], block: &[u8], at: usize) -> u32
+    requires { ⌜ at + 4 ≤ length (now block) ⌝ }
+    ensures { λ r. ⌜ r ≡ lookedUp (now (table .entry)) (window (M (now (block .entry))) (at * 8) 32) 8 ⌝ }
+{
+    of_byte(table, block[at], 0)
+        ^ of_byte(table, block[at + 1], 8)
+        ^ of_byte(table, block[at + 2], 16)
+        ^ of_byte(table, block[at + 3], 24)
 }
 
 // Two halves as one number of 64 bits.
@@ -60,30 +70,37 @@ pub fn across(x: u64, y: u64) -> u64
     joined((x % 0x1_0000_0000) as u32, (y >> 32) as u32)
 }
 
-pub fn wide_look_up(first: &[u64; 16], middle: &[u64; 16], last: &[u64; 16], bits: u64) -> u64
-    ensures { λ r. ⌜ r ≡ wideLookedUp (now (first .entry)) (now (middle .entry)) (now (last .entry)) bits ⌝ }
+pub fn wide_look_up(
+    first: &[u64; 16],
+    middle: &[u64; 16],
+    last: &[u64; 16],
+    block: &[u8],
+    at: usize,
+) -> u64
+    requires { ⌜ at + 8 ≤ length (now block) ⌝ }
+    ensures { λ r. ⌜ r ≡ wideLookedUp (now (first .entry)) (now (middle .entry)) (now (last .entry)) (window (M (now (block .entry))) (at * 8) 64) ⌝ }
 {
-    let hi = (bits >> 32) as u32;
-    let lo = (bits % 0x1_0000_0000) as u32;
-    let upper = look_up(first, hi) ^ look_up(middle, lo);
-    let lower = look_up(middle, hi) ^ look_up(last, lo);
+    let upper = look_up(first, block, at) ^ look_up(middle, block, at + 4);
+    let lower = look_up(middle, block, at) ^ look_up(last, block, at + 4);
     joined(upper, lower)
 }
 
-pub fn sum_32(key: u64, bits: u32) -> u32
-    ensures { λ r. ⌜ r ≡ summed 32 key bits ⌝ }
+pub fn sum_32(key: u64, block: &[u8], at: usize) -> u32
+    requires { ⌜ at + 4 ≤ length (now block) ⌝ }
+    ensures { λ r. ⌜ r ≡ summed 32 key (window (M (now (block .entry))) (at * 8) 32) ⌝ }
 {
     let table = multiples(key);
-    look_up(&table, bits)
+    look_up(&table, block, at)
 }
 
-pub fn sum_64(k0: u64, k1: u64, bits: u64) -> u64
-    ensures { λ r. ⌜ r ≡ summed 64 (k0 ‖₆₄ k1) bits ⌝ }
+pub fn sum_64(k0: u64, k1: u64, block: &[u8]) -> u64
+    requires { ⌜ 8 ≤ length (now block) ⌝ }
+    ensures { λ r. ⌜ r ≡ summed 64 (k0 ‖₆₄ k1) (window (M (now (block .entry))) 0 64) ⌝ }
 {
     let a = multiples(k0);
     let b = multiples(across(k0, k1));
     let c = multiples(k1);
-    wide_look_up(&a, &b, &c, bits)
+    wide_look_up(&a, &b, &c, block, 0)
 }
 
 // A number of 128 bits.
@@ -93,8 +110,9 @@ pub struct Wide {
 }
 
 // Each half of the tag takes both halves of the message, over the part of the key where they meet.
-pub fn sum_128(k0: u64, k1: u64, k2: u64, k3: u64, hi: u64, lo: u64) -> Wide
-    ensures { λ r. ⌜ r .hi ‖₆₄ r .lo ≡ summed 128 ((k0 ‖₆₄ k1) ‖₁₂₈ (k2 ‖₆₄ k3)) (hi ‖₆₄ lo) ⌝ }
+pub fn sum_128(k0: u64, k1: u64, k2: u64, k3: u64, block: &[u8]) -> Wide
+    requires { ⌜ 16 ≤ length (now block) ⌝ }
+    ensures { λ r. ⌜ r .hi ‖₆₄ r .lo ≡ summed 128 ((k0 ‖₆₄ k1) ‖₁₂₈ (k2 ‖₆₄ k3)) (window (M (now (block .entry))) 0 128) ⌝ }
 {
     let a = multiples(k0);
     let b = multiples(across(k0, k1));
@@ -104,7 +122,7 @@ pub fn sum_128(k0: u64, k1: u64, k2: u64, k3: u64, hi: u64, lo: u64) -> Wide
     let f = multiples(across(k2, k3));
     let g = multiples(k3);
     Wide {
-        hi: wide_look_up(&a, &b, &c, hi) ^ wide_look_up(&c, &d, &e, lo),
-        lo: wide_look_up(&c, &d, &e, hi) ^ wide_look_up(&e, &f, &g, lo),
+        hi: wide_look_up(&a, &b, &c, block, 0) ^ wide_look_up(&c, &d, &e, block, 8),
+        lo: wide_look_up(&c, &d, &e, block, 0) ^ wide_look_up(&e, &f, &g, block, 8),
     }
 }

@@ -10,7 +10,6 @@ use Rattle.standard.specs.Notation.{_⊕_}
 use Rattle.zuc.proofs.Runs.{rewound, turn-standing, turn-word}
 use Rattle.zuc.specs.Run.{Standing, Summed, stateAt}
 use borrow.Author.Needs.{needs}
-use Rattle.registers.specs.Lookup.{summed}
 use Rattle.registers.specs.Tagging.{Tagging, updated}
 use Rattle.registers.proofs.Bulk.{fed-part, idle}
 use Rattle.registers.proofs.narrow.words_32.Statement.{statement}
@@ -44,25 +43,25 @@ loop-holds c =
       ap (λ (σ : State). idle σ (start .args .start .key) (start .args .start .tag)) (after-none _),
     )
 
-word-at-requires : tie.Need-word-at-requires Inv-loop μ-loop
-word-at-requires c κs = simp (length-take, length-drop) (omega (arith, c .before .loop-test .taken, c .before .before .loop .inv .2))
+sum-32-requires : tie.Need-sum-32-requires Inv-loop μ-loop
+sum-32-requires c κs = simp (length-take, length-drop) (omega (arith, c .before .loop-test .taken, c .before .before .loop .inv .2))
 
 grow-requires : tie.Need-grow-requires Inv-loop μ-loop
 grow-requires c κs =
-    let loop = c .before .before .before .before .before .before in
+    let loop = c .before .before .before .before .before in
     (loop .loop .inv .4 .laid, (loop .loop .inv .3, omega arith))
 
 word-requires : tie.Need-word-requires Inv-loop μ-loop
-word-requires c κs = c .before .before .before .before .before .before .before .before .before .before .before .before .before .before .loop .inv .4 .low
+word-requires c κs = c .before .before .before .before .before .before .before .before .before .before .before .before .before .loop .inv .4 .low
 
 f-by-halves-requires : tie.Need-f-by-halves-requires Inv-loop μ-loop
 f-by-halves-requires c κs =
-    let loop = c .before .before .before .before .before .before .before .before .before .before .before .before .before .before .before .before .before in
+    let loop = c .before .before .before .before .before .before .before .before .before .before .before .before .before .before .before .before in
     let pre = loop .before .before .before .before .before .before .before .pre in
     (pre .0, (pre .1 .0, loop .loop .inv .4 .low))
 
 add-j : tie.Need-add-j Inv-loop μ-loop
-add-j c = let inside = c .before .before .before .before .before .before .before .before .before .before .before .before .before .before .before .before .before .before in omega (arith, inside .loop-test .taken, inside .before .loop .inv .1)
+add-j c = let inside = c .before .before .before .before .before .before .before .before .before .before .before .before .before .before .before .before .before in omega (arith, inside .loop-test .taken, inside .before .loop .inv .1)
 
 loop-again : tie.Need-loop-again Inv-loop μ-loop
 loop-again c =
@@ -70,7 +69,7 @@ loop-again c =
     let at-word = at-f .before .before .before in
     let at-grow = at-word .before .before .before .before .before .before .before .before in
     let at-sum = at-grow .before .before .before in
-    let inside = at-sum .before .before .before in
+    let inside = at-sum .before .before in
     let loop = inside .before in
     let l = loop .loop in
     let start = loop .before .before .before .before .before .before .before in
@@ -85,7 +84,7 @@ loop-again c =
       turn-standing σ _ _ (l .j) _ (l .inv .4) _ _ _ g _ (at-f .f-by-halves .ensures),
       ap (λ (x : ℕ). idle (after (l .j + 1) σ) x (l .tag ⊕ at-sum .sum-32 .result)) (c .joined .ensures)
           ∙ fed-part σ st (a .part .now) (l .j) (l .key) (l .tag) _ _ (omega (arith, inside .loop-test .taken, l .inv .2)) (l .inv .5)
-          (at-sum .sum-32 .ensures ∙ ap (summed 32 (l .key)) (at-sum .before .word-at .ensures))
+          (at-sum .sum-32 .ensures)
           (turn-word σ _ _ (l .j) _ (l .inv .4) _ _ _ g (at-word .word .ensures)),
     )
 
@@ -135,8 +134,7 @@ words-32-spec =
     (λ c. omega arith)
     (λ c. omega arith)
     (λ c. omega arith)
-    word-at-requires
-    (λ c κs. search needs)
+    sum-32-requires
     grow-requires
     (λ c. omega arith)
     (λ c. omega arith)

@@ -1,56 +1,42 @@
--- `registers::sums::look_up` meets its contract: after k turns the sum is that of k look-ups.
-use mathlib.Core.Path.{_≡_, refl, ap}
-use Prim.Native.Nat.{ℕ, _≤_, _-_, _*_, _/_, _%_, _^_}
-use lib.ListN.{getD}
-use Rattle.standard.specs.Notation.{_⊕_}
-use native.Mathlib.Numerals.{add-one}
+-- `registers::sums::look_up` meets its contract: four bytes are a word, and their look-ups are the word's.
+use mathlib.Core.Path.{ap, ap₂, _∙_}
+use Prim.Native.Nat.{ℕ, _+_, _<_, _^_}
+use lib.Bits.{bitXor}
 use native.Mathlib.Omega.{arith}
+use borrow.Author.Needs.{needs}
+use denote.Ref.{now}
+use Rattle.standard.specs.Generator.{_⟨_⟩}
 use Rattle.registers.specs.Lookup.{lookedUp}
+use Rattle.registers.proofs.Lookup.{by-bytes}
+use Rattle.registers.proofs.Widths.{bytes-32}
 use Rattle.registers.proofs.sums.look_up.Statement.{statement}
 use Rattle.registers.proofs.sums.look_up.Tie as tie
 
-abbrev Inv-loop : tie.InvT-loop
-Inv-loop table bits sum₀ k₀ sum k = (k ≤ 8) × (sum ≡ lookedUp table bits k)
-
-abbrev μ-loop : tie.MeasureT-loop
-μ-loop table bits sum₀ k₀ sum k = 8 - k
-
-loop-holds : tie.Need-loop-holds Inv-loop μ-loop
-unfolding lookedUp
-loop-holds c = (omega arith, refl)
-
-loop-again : tie.Need-loop-again Inv-loop μ-loop
-unfolding lookedUp
-loop-again c =
-    let l = c .before .before in
-    let a = l .before .args in
-    (omega arith, rw add-one (ap (λ (x : ℕ). x ⊕ getD (a .table .now) (a .bits / 2 ^ (28 - 4 * l .loop .k) % 16) 0 / 2 ^ (29 - 4 * l .loop .k) % 2 ^ 32) (l .loop .inv .1)))
-
-returns : tie.Need-returns Inv-loop μ-loop
+returns : tie.Need-returns
 returns c =
-    let l = c .before in
-    let e : l .loop .k ≡ 8 = omega arith in
-    rw e at (l .loop .inv .1)
+    let third = c .before .before in
+    let second = third .before .before in
+    let first = second .before .before in
+    let known = first .before .before in
+    let a = known .before .args in
+    let small : (i : ℕ) → now (a .block) ⟨ i ⟩ < 2 ^ 8 = λ i. omega (arith, known .shared-slice-known .given i) in
+    ap₂ bitXor (ap₂ bitXor (ap₂ bitXor (first .of-byte .ensures) (second .of-byte2 .ensures)) (third .of-byte3 .ensures)) (c .of-byte4 .ensures)
+    ∙ by-bytes (now (a .table)) _ _ _ _ (small (a .at)) (small (a .at + 1)) (small (a .at + 2)) (small (a .at + 3))
+    ∙ ap (λ (x : ℕ). lookedUp (now (a .table)) x 8) (bytes-32 (now (a .block)) (a .at) small)
 
 pub look-up-spec : {M : Type 1} → statement M
 look-up-spec =
     tie.close
     (tie.spec
-    Inv-loop
-    μ-loop
-    loop-holds
-    (λ c. omega arith)
-    (λ c. omega arith)
-    (λ c. omega arith)
-    (λ c. omega arith)
-    (λ c. omega arith)
-    (λ c. omega arith)
-    (λ c. omega arith)
-    (λ c. omega arith)
-    (λ c. omega arith)
-    (λ c. omega arith)
-    (λ c. omega arith)
-    (λ c. omega arith)
-    (λ c. omega arith)
-    loop-again
+    (λ c. search needs)
+    (λ c κs. search needs)
+    (λ c. search needs)
+    (λ c. search needs)
+    (λ c κs. search needs)
+    (λ c. search needs)
+    (λ c. search needs)
+    (λ c κs. search needs)
+    (λ c. search needs)
+    (λ c. search needs)
+    (λ c κs. search needs)
     returns)
