@@ -17,7 +17,7 @@ use zuc::run::f_by_halves;
 use zuc::run::grow;
 use zuc::run::lay_state;
 use zuc::run::raised;
-use zuc::run::rewind;
+use zuc::run::rest;
 use zuc::run::smaller;
 use zuc::run::state_of;
 use zuc::run::sums_at;
@@ -119,8 +119,7 @@ fn mask_block(
         xor_word(w, &mut part[i..e]);
         h = next;
     }
-    rewind(run, n);
-    rewind(pairs, n);
+    rest(run, pairs, n);
     h
 }
 

@@ -12,7 +12,7 @@ use zuc::run::f_by_halves;
 use zuc::run::grow;
 use zuc::run::lay_state;
 use zuc::run::raised;
-use zuc::run::rewind;
+use zuc::run::rest;
 use zuc::run::smaller;
 use zuc::run::state_of;
 use zuc::run::sums_at;
@@ -51,8 +51,7 @@ pub fn words_32(
         h = f_by_halves(high, low, h, pairs[j + 10], pairs[j + 6]);
         key = super::sums::joined((key % 0x1_0000_0000) as u32, w);
     }
-    rewind(run, n);
-    rewind(pairs, n);
+    rest(run, pairs, n);
     Narrow { h, key, tag }
 }
 

@@ -7,7 +7,7 @@ use Rattle.standard.proofs.Each.{doneFrom, from-end, from-start}
 use Rattle.standard.proofs.Generator.{after-none}
 use Rattle.standard.specs.Confidentiality.{masked}
 use Rattle.standard.specs.Generator.{State, after, wordAt}
-use Rattle.zuc.proofs.Runs.{rewound, turn-standing, turn-word}
+use Rattle.zuc.proofs.Runs.{turn-standing, turn-word}
 use Rattle.zuc.specs.Run.{Standing, Summed, stateAt}
 use Rattle.mask.proofs.Words.{alone, turn-masked}
 use Rattle.mask.proofs.mask_block.Statement.{statement}
@@ -73,29 +73,23 @@ loop-again c =
           ∙ l .inv .5,
     )
 
-rewind-requires : tie.Need-rewind-requires Inv-loop μ-loop
-rewind-requires c κs = let l = c .before .before .loop in (l .inv .4 .laid .long, omega arith)
-
-rewind-requires-2 : tie.Need-rewind-requires-2 Inv-loop μ-loop
-rewind-requires-2 c κs = let l = c .before .before .before .before .before .before .loop in (l .inv .4 .laid .wide, omega arith)
+rest-requires : tie.Need-rest-requires Inv-loop μ-loop
+rest-requires c κs = let laid = c .before .before .before .loop .inv .4 .laid in ((laid .long, laid .wide), omega arith)
 
 returns : tie.Need-returns Inv-loop μ-loop
 returns c =
-    let second = c .before .before in
-    let first = second .before .before .before .before in
-    let loop = first .before .before .before in
+    let at-rest = c .before .before .before .before in
+    let loop = at-rest .before .before .before .before in
     let l = loop .loop in
     let start = loop .before .before .before .before .before .before in
     let σ : State = stateAt (start .args .run .now) 0 (start .args .start) in
-    let n : ℕ = length (start .args .part .now) / 4 in
-    let end : l .j ≡ n = omega arith in
+    let end : l .j ≡ length (start .args .part .now) / 4 = omega arith in
     let whole = start .pre .1 .1 .1 .1 .1 in (
-      rewound (after n σ) _ _ _ _ n _ (subst (λ (k : ℕ). Standing (l .run) (l .pairs) k (l .h) (after k σ)) end (l .inv .4))
-          (omega arith) (omega arith) (first .rewind .ensures) (second .rewind2 .ensures),
+      at-rest .rest .ensures _ _ (subst (λ (k : ℕ). Standing (l .run) (l .pairs) k (l .h) (after k σ)) end (l .inv .4)),
       sym (from-end (masked (wordAt σ)) (4 * l .j) (l .part) (omega (arith, whole))) ∙ l .inv .5 ∙ from-start _ _,
     )
 
 pub mask-block-spec : {M : Type 1} → statement M
 mask-block-spec =
     tie.close
-    (tie.spec Inv-loop μ-loop sums-at-requires loop-holds grow-requires (λ c. omega arith) (λ c. omega arith) (λ c. omega arith) (λ c. omega arith) (λ c. omega arith) (λ c. omega arith) f-by-halves-requires (λ c. omega arith) (λ c. omega arith) (λ c. omega arith) (λ c. omega arith) (λ c. omega arith) (λ c. omega arith) (λ c. omega arith) (λ c. omega arith) (λ c. omega arith) (λ c. omega arith) (λ c. omega arith) word-requires (λ c. omega arith) (λ c. omega arith) (λ c. omega arith) xor-word-requires (λ c. omega arith) (λ c. omega arith) loop-again rewind-requires rewind-requires-2 (λ c. omega arith) (λ c. omega arith) (λ c. omega arith) returns)
+    (tie.spec Inv-loop μ-loop sums-at-requires loop-holds grow-requires (λ c. omega arith) (λ c. omega arith) (λ c. omega arith) (λ c. omega arith) (λ c. omega arith) (λ c. omega arith) f-by-halves-requires (λ c. omega arith) (λ c. omega arith) (λ c. omega arith) (λ c. omega arith) (λ c. omega arith) (λ c. omega arith) (λ c. omega arith) (λ c. omega arith) (λ c. omega arith) (λ c. omega arith) (λ c. omega arith) word-requires (λ c. omega arith) (λ c. omega arith) (λ c. omega arith) xor-word-requires (λ c. omega arith) (λ c. omega arith) loop-again rest-requires (λ c. omega arith) (λ c. omega arith) (λ c. omega arith) returns)

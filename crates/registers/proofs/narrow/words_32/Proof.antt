@@ -7,7 +7,7 @@ use Prim.Native.Nat.{ℕ, _+_, _*_, _/_, _-_, _≤_}
 use Rattle.standard.proofs.Generator.{after-none}
 use Rattle.standard.specs.Generator.{State, after}
 use Rattle.standard.specs.Notation.{_⊕_}
-use Rattle.zuc.proofs.Runs.{rewound, turn-standing, turn-word}
+use Rattle.zuc.proofs.Runs.{turn-standing, turn-word}
 use Rattle.zuc.specs.Run.{Standing, Summed, stateAt}
 use borrow.Author.Needs.{needs}
 use Rattle.registers.specs.Tagging.{Tagging, updated}
@@ -88,30 +88,20 @@ loop-again c =
           (turn-word σ _ _ (l .j) _ (l .inv .4) _ _ _ g (at-word .word .ensures)),
     )
 
-rewind-requires : tie.Need-rewind-requires Inv-loop μ-loop
-rewind-requires c κs =
-    let loop = c .before .before in
-    (loop .loop .inv .4 .laid .long, omega arith)
-
-rewind-requires-2 : tie.Need-rewind-requires-2 Inv-loop μ-loop
-rewind-requires-2 c κs =
-    let loop = c .before .before .before .before .before .before in
-    (loop .loop .inv .4 .laid .wide, omega arith)
+rest-requires : tie.Need-rest-requires Inv-loop μ-loop
+rest-requires c κs = let laid = c .before .before .before .loop .inv .4 .laid in ((laid .long, laid .wide), omega arith)
 
 returns : tie.Need-returns Inv-loop μ-loop
 returns c =
-    let second = c .before .before in
-    let first = second .before .before .before .before in
-    let loop = first .before .before .before in
+    let at-rest = c .before .before .before .before in
+    let loop = at-rest .before .before .before .before in
     let l = loop .loop in
     let start = loop .before .before .before .before .before .before .before in
     let a = start .args in
     let σ : State = stateAt (a .run .now) 0 (a .start .h) in
     let n : ℕ = length (a .part .now) / 4 in
     let end : l .j ≡ n = omega (arith, l .inv .0) in
-    let standing : Standing (first .rewind .last .0) (second .rewind2 .last .0) 0 (l .h) (after n σ) =
-    rewound (after n σ) _ _ _ _ n _ (subst (λ (k : ℕ). Standing (l .run) (l .pairs) k (l .h) (after k σ)) end (l .inv .4))
-    (omega arith) (omega arith) (first .rewind .ensures) (second .rewind2 .ensures) in
+    let standing = at-rest .rest .ensures (l .h) (after n σ) (subst (λ (k : ℕ). Standing (l .run) (l .pairs) k (l .h) (after k σ)) end (l .inv .4)) in
     record {
       laid = standing .laid;
       low = standing .low;
@@ -158,8 +148,7 @@ words-32-spec =
     add-j
     (λ c. omega arith)
     loop-again
-    rewind-requires
-    rewind-requires-2
+    rest-requires
     (λ c. omega arith)
     (λ c. omega arith)
     returns)
