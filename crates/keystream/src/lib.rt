@@ -119,7 +119,7 @@ pub fn fill(state: Zuc, buffer: &mut [u32]) -> Filling
     }
     let t0 = S0;
     let t1 = S1;
-    let next = zuc::run::words_into(&t0, &t1, state, buffer);
+    let next = bulk::words_into(&t0, &t1, state, buffer);
     Filling {
         answer: FillAnswer::Filled,
         state: next,

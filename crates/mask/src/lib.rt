@@ -8,20 +8,20 @@ ghost use Rattle.standard.specs.Boxes.{S₀-table, S₁-table};
 ghost use Rattle.standard.specs.Confidentiality.{eachFrom, keepHigh, masked, wordsToMask};
 ghost use Rattle.standard.specs.Generator.{Cells, after, wordAt};
 ghost use Rattle.zuc.specs.Reading.{stateOf};
-ghost use Rattle.zuc.specs.Run.{Laid, Low, Standing, raisedOf, stateAt};
+ghost use Rattle.bulk.specs.Run.{Laid, Low, Standing, raisedOf, stateAt};
+use bulk::Halves;
+use bulk::f_by_halves;
+use bulk::grow;
+use bulk::lay_state;
+use bulk::raised;
+use bulk::rest;
+use bulk::smaller;
+use bulk::state_of;
+use bulk::sums_at;
+use bulk::word;
 use zuc::Zuc;
 use zuc::boxes::S0;
 use zuc::boxes::S1;
-use zuc::run::Halves;
-use zuc::run::f_by_halves;
-use zuc::run::grow;
-use zuc::run::lay_state;
-use zuc::run::raised;
-use zuc::run::rest;
-use zuc::run::smaller;
-use zuc::run::state_of;
-use zuc::run::sums_at;
-use zuc::run::word;
 
 // What a call answers: the words drawn, or why it was refused.
 pub enum MaskAnswer {
@@ -94,7 +94,7 @@ fn keep_bits(buf: &mut [u8], q: usize, k: usize)
     }
 }
 
-// Masks whole words, at most 64, in the loop that draws them: the xor is done while F is waited for. Cells and pairs are as in zuc::run.
+// Masks whole words, at most 64, in the loop that draws them: the xor is done while F is waited for. Cells and pairs are as in bulk.
 fn mask_block(
     high: &[u16; 256],
     low: &[u8; 256],

@@ -2,7 +2,7 @@
 use mathlib.Core.List.{List, []}
 use mathlib.Core.Path.{_≡_}
 use Prim.Native.Nat.{ℕ}
-use Rattle.zuc.specs.Run.{Laid, Low, stateAt}
+use Rattle.bulk.specs.Run.{Laid, Low, stateAt}
 use Rattle.registers.specs.Tagging.{Tagging}
 use Rattle.registers.specs.declared.narrow.Narrow.{Narrow}
 

@@ -62,7 +62,7 @@ pub fn feed(t0: &[u8; 256], t1: &[u8; 256], s: super::TagState, part: &[u8]) -> 
     let g = s.g;
     let n = part.len() / 4;
     let mut words = [0u32; 64];
-    let next = zuc::run::words_into(t0, t1, g, &mut words[..n]);
+    let next = bulk::words_into(t0, t1, g, &mut words[..n]);
     let fed = feed_all(width, key, tag, &words[..n], part);
     let moved = fed.key;
     let sum = fed.tag;

@@ -3,20 +3,20 @@ ghost use lib.ListN.{length};
 ghost use mathlib.Core.Path.{_≡_};
 ghost use Prim.Native.Nat.{_%_, _≤_};
 ghost use Rattle.standard.specs.Boxes.{S₀-table, S₁-table};
-ghost use Rattle.zuc.specs.Run.{Laid, Low, raisedOf};
+ghost use Rattle.bulk.specs.Run.{Laid, Low, raisedOf};
 ghost use Rattle.registers.specs.Narrow.{Tagged, taggingAt};
 ghost use Rattle.registers.specs.Stored.{Blocks, Held, storedOf};
 ghost use Rattle.registers.specs.Tagging.{updated};
-use zuc::run::Halves;
-use zuc::run::f_by_halves;
-use zuc::run::grow;
-use zuc::run::lay_state;
-use zuc::run::raised;
-use zuc::run::rest;
-use zuc::run::smaller;
-use zuc::run::state_of;
-use zuc::run::sums_at;
-use zuc::run::word;
+use bulk::Halves;
+use bulk::f_by_halves;
+use bulk::grow;
+use bulk::lay_state;
+use bulk::raised;
+use bulk::rest;
+use bulk::smaller;
+use bulk::state_of;
+use bulk::sums_at;
+use bulk::word;
 
 // What the loop carries beside the run: the registers, the key pair and the tag.
 pub struct Narrow {

@@ -8,9 +8,9 @@ use Rattle.standard.proofs.Each.{doneFrom, from-end, from-start}
 use Rattle.standard.proofs.Generator.{after-none, word-after, wordAt-after}
 use Rattle.standard.specs.Confidentiality.{eachFrom, masked, wordsToMask}
 use Rattle.standard.specs.Generator.{Cells, State, after, word, wordAt}
-use Rattle.zuc.proofs.Filling.{turn-on}
+use Rattle.bulk.proofs.Filling.{turn-on}
 use Rattle.zuc.specs.Reading.{Draw, stateOf}
-use Rattle.zuc.specs.Run.{Standing, raisedOf, stateAt}
+use Rattle.bulk.specs.Run.{Standing, raisedOf, stateAt}
 use Rattle.mask.proofs.Words.{alone, turn-masked, turn-state}
 use Rattle.mask.proofs.mask_all.Statement.{statement}
 use Rattle.mask.proofs.mask_all.Tie as tie

@@ -5,7 +5,7 @@ use mathlib.Core.Path.{_≡_, refl, _∙_, ap, sym}
 use native.Mathlib.Omega.{arith}
 use Prim.Native.Nat.{ℕ, _+_, _*_, _-_, _/_, _≤_}
 use Rattle.standard.specs.Generator.{State, _⟨_⟩}
-use Rattle.zuc.specs.Run.{raisedOf}
+use Rattle.bulk.specs.Run.{raisedOf}
 use borrow.Author.Needs.{needs}
 use Rattle.registers.specs.Narrow.{Tagged, taggingAt}
 use Rattle.registers.specs.Stored.{packed, storedOf, tagOf, taggingOf}

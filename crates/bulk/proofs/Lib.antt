@@ -1,0 +1,4 @@
+pub mod ByHalves
+pub mod Filling
+pub mod Runs
+pub mod Turned
