@@ -1,4 +1,2 @@
-pub mod Regrouped
-pub mod Packing
 pub mod Refusals
 pub mod Tight

@@ -5,8 +5,8 @@ use mathlib.Core.Bool.{Bool, true, false}
 use mathlib.Core.List.{List}
 use mathlib.Core.Path.{_≡_, refl}
 use Prim.Native.Nat.{ℕ, _*_, _^_, _<_}
-use Rattle.capi.proofs.Packing.{state-array, stored-array}
-use Rattle.capi.specs.Arrays.{arrayOf, regrouped, stateIn, storedIn, tagArrayOf}
+use Rattle.arrays.proofs.Packing.{state-array, stored-array}
+use Rattle.arrays.specs.Arrays.{arrayOf, regrouped, stateIn, storedIn, tagArrayOf}
 use Rattle.capi.specs.Generators.{drawArray, maskArray, startArray, wordsArray}
 use Rattle.capi.specs.Tags.{ClosingArray, tagArray}
 use Rattle.keystream.specs.Draws.{drawOutcome, fillOutcome}

@@ -1,3 +1,2 @@
-pub mod Arrays
 pub mod Generators
 pub mod Tags

@@ -3,15 +3,15 @@
 ghost use mathlib.Core.List.{List};
 ghost use mathlib.Core.Path.{_≡_};
 ghost use Prim.Native.Nat.{ℕ};
-ghost use Rattle.capi.specs.Arrays.{stateIn};
+ghost use Rattle.arrays.specs.Arrays.{stateIn};
 ghost use Rattle.capi.specs.Generators.{drawArray, maskArray, startArray, wordsArray};
 ghost use Rattle.keystream.specs.Draws.{drawNumber, drawOutcome, drawWord, fillNumber, fillOutcome};
 ghost use Rattle.keystream.specs.Starts.{startTold, start₁₂₈, start₂₅₆, start-EEA3};
 ghost use Rattle.mask.specs.Outcome.{cleanOutcome, countOf, crateOutcome, numberOf, told};
 ghost use Rattle.standard.specs.Loading.{d-keystream};
-use super::array_of;
 use super::start_number;
-use super::state_in;
+use arrays::array_of;
+use arrays::state_in;
 use keystream::DrawAnswer;
 use keystream::FillAnswer;
 use keystream::Start;

@@ -1,13 +1,13 @@
 // Tags: starts, updates, closings and one-shots, as in generators.rt.
 ghost use mathlib.Core.Path.{_≡_};
-ghost use Rattle.capi.specs.Arrays.{storedIn};
+ghost use Rattle.arrays.specs.Arrays.{storedIn};
 ghost use Rattle.capi.specs.Tags.{closingArray, tagArray, twoClosing, twoOnce};
 ghost use Rattle.keystream.specs.Starts.{startNumber};
 ghost use Rattle.mac.specs.Calls.{finishOutcome-128, finishOutcome-256, formed-128, onceOutcome-128, onceOutcome-256, onceOutcome-EIA3, onceTold-128, onceTold-256, startOutcome-128, startOutcome-256, startOutcome-EIA3, tagList, tagNumber-128, tagNumber-256, tagWord, updateNumber, updateOutcome};
 ghost use Rattle.registers.specs.Stored.{formed, storedOf};
 use super::start_number;
-use super::tag_array_of;
-use super::tag_state_in;
+use arrays::tag_array_of;
+use arrays::tag_state_in;
 use keystream::StartAnswer;
 use mac::Mac128;
 use mac::Mac256;

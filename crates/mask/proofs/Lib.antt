@@ -1,4 +1,3 @@
 pub mod Clear
-pub mod Words
 pub mod Outcomes
 pub mod Tight

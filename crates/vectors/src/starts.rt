@@ -60,7 +60,7 @@ fn word_2000() {
 }
 
 // ETSI/SAGE Document 3, ZUC sets 1 to 4, and ZUC-256 version 1.1.
-pub fn published() {
+fn zuc128_sets() {
     words(
         b"zuc128-set1",
         start128(
@@ -94,6 +94,9 @@ pub fn published() {
         b"ed4400e70633e5c5",
     );
     word_2000();
+}
+
+fn zuc256_sets() {
     words(
         b"zuc256-keystream-1",
         start256(
@@ -110,6 +113,11 @@ pub fn published() {
         ),
         b"3356cbaed1a1c18b6baa4ffe343f777c9e15128f251ab65b949f7b26ef7157f296dd2fa9df95e3ee7a5be02ec32ba585505af316c2f9ded27cdbd935e441ce1115fd0a80bb7aef6768989416b8fac8c2",
     );
+}
+
+pub fn published() {
+    zuc128_sets();
+    zuc256_sets();
 }
 
 fn refused(name: &[u8], want: u64, start: Start) {
@@ -168,20 +176,32 @@ fn draw(name: &[u8], want: u64, state: Zuc) {
 }
 
 // The refusals of document 01 that concern starts and draws.
-pub fn refusals() {
+fn refused_starts() {
     zuc128(b"key 15, IV 17", 2, 15, 17);
     zuc128(b"key 16, IV 17", 3, 16, 17);
     zuc128(b"key 16, IV 16", 0, 16, 16);
     zuc256(b"ZUC-256 IV 22", 3, 32, 22);
     zuc256(b"ZUC-256 key 33, IV 22", 2, 33, 22);
+    let k = [0u8; 15];
+    refused(b"EEA3 key 15", 2, keystream::eea3::new(1, 2, 0, &k));
+}
+
+fn refused_tag_starts() {
     tag256(b"width 5, key 33, IV 22", 1, 5, 33, 22);
     tag256(b"width 4, key 33, IV 22", 2, 4, 33, 22);
     tag256(b"width 8, key 32, IV 24", 3, 8, 32, 24);
     tag256(b"width 16, key 32, IV 23", 0, 16, 32, 23);
-    let k = [0u8; 15];
-    refused(b"EEA3 key 15", 2, keystream::eea3::new(1, 2, 0, &k));
+}
+
+fn refused_draws() {
     draw(b"draw from zeros", 4, with_cell(16, 0, 0));
     draw(b"draw, s0 = 0", 4, with_cell(0, 0, 1));
     draw(b"draw, s15 = 2147483648", 4, with_cell(15, 2147483648, 1));
     draw(b"draw, s7 = 2147483647", 0, with_cell(7, 2147483647, 1));
+}
+
+pub fn refusals() {
+    refused_starts();
+    refused_tag_starts();
+    refused_draws();
 }

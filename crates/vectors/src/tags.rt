@@ -321,8 +321,8 @@ pub fn published_eia3() {
     eia3_set5();
 }
 
-// ZUC-256 version 1.1, tags of 32, 64 and 128 bits.
-pub fn published_zuc256() {
+// ZUC-256 version 1.1, tags of 32, 64 and 128 bits: keys and IVs of zeros.
+fn zeros_zuc256() {
     zuc256(b"zuc256-mac32-1", 4, 0x00, 0x00, 400, b"9b972a74");
     zuc256(b"zuc256-mac64-1", 8, 0x00, 0x00, 400, b"673e54990034d38c");
     zuc256(
@@ -343,6 +343,10 @@ pub fn published_zuc256() {
         4000,
         b"df1e8307b31cc62beca1ac6f8190c22f",
     );
+}
+
+// Keys and IVs of ones.
+fn ones_zuc256() {
     zuc256(b"zuc256-mac32-7", 4, 0xff, 0x00, 400, b"1f3079b4");
     zuc256(b"zuc256-mac64-7", 8, 0xff, 0x00, 400, b"8c71394d39957725");
     zuc256(
@@ -363,6 +367,11 @@ pub fn published_zuc256() {
         4000,
         b"3a83b554be408ca5494124ed9d473205",
     );
+}
+
+pub fn published_zuc256() {
+    zeros_zuc256();
+    ones_zuc256();
 }
 
 // A state whose next words are 80000000 00000001 0000000F 00000100 (found by a search), so that P9 and P10 go through the code.
@@ -444,7 +453,7 @@ fn p10_row(name: &[u8], message: &[u8], bits: usize, want: &[u8]) {
 }
 
 // P9 and P10 of document 01.
-pub fn p9_p10() {
+fn p9() {
     let zeros = [0u8; 5];
     let set = [0x80u8; 1];
     let last = [0, 0, 0, 1u8];
@@ -452,14 +461,24 @@ pub fn p9_p10() {
     p9_row(b"P9, one set bit", &set, 1, b"8000000f");
     p9_row(b"P9, 32 bits, the last set", &last, 32, b"0000000e");
     p9_row(b"P9, 33 zero bits", &zeros, 33, b"00000102");
-    p10_row(b"P10, 0 bits", front(&zeros, 0), 0, b"80000001");
+}
+
+fn p10() {
+    let none = [0u8; 0];
+    let set = [0x80u8; 1];
+    p10_row(b"P10, 0 bits", &none, 0, b"80000001");
     p10_row(b"P10, one set bit", &set, 1, b"80000003");
 }
 
-// The refusals of tags, each lowest first, and a state that closes once.
-pub fn refusals() {
-    let k = [0u8; 33];
-    let v = [0u8; 24];
+pub fn p9_p10() {
+    p9();
+    p10();
+}
+
+// The refusals of tags, each lowest first.
+fn refused_128() {
+    let k = [0u8; 16];
+    let v = [0u8; 17];
     let m = [0u8; 5];
     number(
         b"EIA3 key 15, L = 41",
@@ -469,39 +488,39 @@ pub fn refusals() {
     number(
         b"EIA3 key 16, L = 41",
         5,
-        of_once128(mac::eia3::compute(0, 0, 0, front(&k, 16), &m, 41)).number,
+        of_once128(mac::eia3::compute(0, 0, 0, &k, &m, 41)).number,
     );
     number(
         b"ZUC-128 tag IV 17, L = 41",
         3,
-        of_once128(mac::zuc128::compute(front(&k, 16), front(&v, 17), &m, 41)).number,
+        of_once128(mac::zuc128::compute(&k, &v, &m, 41)).number,
     );
+}
+
+fn once_256(name: &[u8], want: u64, width: usize, key: &[u8], iv: &[u8]) {
+    let m = [0u8; 5];
     number(
-        b"ZUC-256 tag width 5",
-        1,
-        of_once256(5, mac::zuc256::compute(5, &k, &v, &m, 41)).number,
+        name,
+        want,
+        of_once256(width, mac::zuc256::compute(width, key, iv, &m, 41)).number,
     );
-    number(
-        b"ZUC-256 tag key 33",
-        2,
-        of_once256(4, mac::zuc256::compute(4, &k, &v, &m, 41)).number,
-    );
-    number(
-        b"ZUC-256 tag IV 24",
-        3,
-        of_once256(4, mac::zuc256::compute(4, front(&k, 32), &v, &m, 41)).number,
-    );
-    number(
-        b"ZUC-256 tag L = 41",
-        5,
-        of_once256(
-            4,
-            mac::zuc256::compute(4, front(&k, 32), front(&v, 23), &m, 41),
-        ).number,
-    );
+}
+
+fn refused_256() {
+    let k = [0u8; 33];
+    let v = [0u8; 24];
+    once_256(b"ZUC-256 tag width 5", 1, 5, &k, &v);
+    once_256(b"ZUC-256 tag key 33", 2, 4, &k, &v);
+    once_256(b"ZUC-256 tag IV 24", 3, 4, front(&k, 32), &v);
+    once_256(b"ZUC-256 tag L = 41", 5, 4, front(&k, 32), front(&v, 23));
     let refused = mac::zuc256::new(5, &k, &v);
     let answer = refused.answer;
     number(b"ZUC-256 tag start, width 5", 1, start_number(answer));
+}
+
+// A state closes once.
+fn closed() {
+    let m = [0u8; 5];
     let done = mac::zuc128::finish(begun128(), &m, 40);
     let spent = done.mac;
     number(
@@ -509,4 +528,10 @@ pub fn refusals() {
         4,
         of_finish128(mac::zuc128::finish(spent, &m, 40)).number,
     );
+}
+
+pub fn refusals() {
+    refused_128();
+    refused_256();
+    closed();
 }
