@@ -13,26 +13,39 @@ use Rattle.standard.specs.Integrity.{IV-EIA3, tag-EIA3, tag-ZUC256}
 use Rattle.standard.proofs.Generator.{same-words}
 use Rattle.standard.specs.Loading.{load₁₂₈, load₂₅₆}
 use Rattle.standard.proofs.Table.{and-right}
-use Rattle.keystream.specs.Starts.{StartOutcome, isWidth, require, rowOf, startTag₂₅₆, start₁₂₈, start₂₅₆}
+use denote.Enum.Declared.{tagOf}
+use mathlib.Core.Logic.{⊎-elim}
+use types.Run.{OneOf}
+use Rattle.keystream.proofs.StartAnswer.{the-type}
+use Rattle.keystream.specs.declared.StartAnswer.{StartAnswer}
+use Rattle.keystream.specs.declared.StartAnswer.the-variants.{Started, BadWidth, BadKey, BadIv}
+use Rattle.keystream.specs.Starts.{StartOutcome, startNumber, isWidth, require, rowOf, startTag₂₅₆, start₁₂₈, start₂₅₆}
 use Rattle.registers.specs.Stored.{Stored, Width, formed, packed, tagWords, zeroStored}
 use Rattle.registers.specs.Tagging.{begun-EIA3, begun-ZUC256, closed-EIA3, closed-ZUC256, updated}
 use Rattle.registers.proofs.Packed.{width-whole}
 use Rattle.registers.proofs.Rule.{rule-EIA3, rule-ZUC256}
-use Rattle.mac.specs.Calls.{Once, begun-128, begun-256, checked, closing, formed-128, ifStarted, noWords, once-from-128, once-from-256, onceOutcome-128, onceOutcome-256, onceOutcome-EIA3}
+use Rattle.mac.specs.Calls.{Once, Outcome, checked, closing, formed-128, ifStarted, noWords, once-from-128, once-from-256, onceOutcome-128, onceOutcome-256, onceOutcome-EIA3, refusedStart}
 use Rattle.mac.proofs.Loaded.{width-of}
 
+-- an answer that a `match` found to be another than `Started`
+abbrev Refused : StartAnswer → Type 0
+Refused a = OneOf (1 ∷ 2 ∷ 3 ∷ []) (tagOf the-type a)
+
+above : (a : StartAnswer) → Refused a → (k : ℕ) × (startNumber a ≡ suc k)
+above Started h = absurd (⊎-elim (λ (e : 0 ≡ 1). omega arith) (λ g. ⊎-elim (λ (e : 0 ≡ 2). omega arith) (λ (e : 0 ≡ 3). omega arith) g) h)
+above BadWidth h = (0, refl)
+above BadKey h = (1, refl)
+above BadIv h = (2, refl)
+
+-- a start, by its answer
 module _ (o : StartOutcome) (r : Stored) where
-  pub started-128 : o .number ≡ 0 → r ≡ packed 4 (begun-EIA3 (o .state)) → record { number = 0; state = r } ≡ begun-128 o
-  started-128 e f = rw e (ap (λ (x : Stored). record { number = 0; state = x }) f)
+  pub started-as : (accepted : Stored) → o .number ≡ 0 → r ≡ accepted
+      → record { number = 0; state = r } ≡ ifStarted (o .number) (record { number = 0; state = accepted }) refusedStart
+  started-as accepted e f = rw e (ap (λ (x : Stored). record { number = 0; state = x }) f)
 
-  pub refused-128 : (k : ℕ) → o .number ≡ suc k → r ≡ zeroStored → record { number = suc k; state = r } ≡ begun-128 o
-  refused-128 k e f = rw e (ap (λ (x : Stored). record { number = suc k; state = x }) f)
-
-  pub started-256 : (w : ℕ) → o .number ≡ 0 → r ≡ packed w (begun-ZUC256 (w * 8) (o .state)) → record { number = 0; state = r } ≡ begun-256 w o
-  started-256 w e f = rw e (ap (λ (x : Stored). record { number = 0; state = x }) f)
-
-  pub refused-256 : (w k : ℕ) → o .number ≡ suc k → r ≡ zeroStored → record { number = suc k; state = r } ≡ begun-256 w o
-  refused-256 w k e f = rw e (ap (λ (x : Stored). record { number = suc k; state = x }) f)
+  pub refused-as : (accepted : Outcome) (a : StartAnswer) → Refused a → o .number ≡ startNumber a → r ≡ zeroStored
+      → record { number = startNumber a; state = r } ≡ ifStarted (o .number) accepted refusedStart
+  refused-as accepted a h e f = let k = above a h in rw (e, k .1) (ap (λ (x : Stored). record { number = suc (k .0); state = x }) f)
 
 -- a closing, by its tests
 module _ {Tag : Type 0} (none : Tag) (formed : Bool) (s : Stored) (tail : List ℕ) (l : ℕ) (tag : Tag) where

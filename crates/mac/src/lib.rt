@@ -161,9 +161,7 @@ fn begin_from(start: Start) -> Start128
                 mac: Mac128 { state },
             }
         }
-        StartAnswer::BadWidth => refused_128(StartAnswer::BadWidth),
-        StartAnswer::BadKey => refused_128(StartAnswer::BadKey),
-        StartAnswer::BadIv => refused_128(StartAnswer::BadIv),
+        _ => refused_128(answer),
     }
 }
 

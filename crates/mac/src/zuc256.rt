@@ -46,9 +46,7 @@ pub fn new(width: usize, key: &[u8], iv: &[u8]) -> Start256
                 mac: Mac256 { state },
             }
         }
-        StartAnswer::BadWidth => refused(StartAnswer::BadWidth),
-        StartAnswer::BadKey => refused(StartAnswer::BadKey),
-        StartAnswer::BadIv => refused(StartAnswer::BadIv),
+        _ => refused(answer),
     }
 }
 

@@ -5,7 +5,7 @@ use Rattle.standard.specs.Boxes.{S₀-table, S₁-table}
 use Rattle.keystream.specs.declared.StartAnswer.{StartAnswer}
 use Rattle.keystream.specs.Starts.{startNumber, startTold}
 use Rattle.registers.specs.Stored.{storedOf}
-use Rattle.mac.proofs.Outcomes.{refused-128, started-128}
+use Rattle.mac.proofs.Outcomes.{refused-as, started-as}
 use Rattle.mac.proofs.begin_from.Statement.{statement}
 use Rattle.mac.proofs.begin_from.Tie as tie
 
@@ -20,42 +20,17 @@ returns : tie.Need-returns
 returns c =
     let m = c .before .before .before in
     let s = m .before .before .before in
-    started-128 (startTold (s .args .start)) (storedOf (c .begin-128 .result)) (ap startNumber (m .enum-told .given .1)) (c .begin-128 .ensures)
+    started-as (startTold (s .args .start)) (storedOf (c .begin-128 .result)) _ (ap startNumber (m .enum-told .given .1)) (c .begin-128 .ensures)
 
 returns-2 : tie.Need-returns-2
 returns-2 c =
     let m = c .before in
-    let s = m .before .before .before in
-    ap (λ (a : StartAnswer). record { number = startNumber a; state = storedOf (c .refused-128 .result .mac .state) }) (c .refused-128 .ensures .0)
-    ∙ refused-128 (startTold (s .args .start)) (storedOf (c .refused-128 .result .mac .state)) 0 (ap startNumber (m .enum-told2 .given .1)) (c .refused-128 .ensures .1)
-
-returns-3 : tie.Need-returns-3
-returns-3 c =
-    let m = c .before in
-    let s = m .before .before .before in
-    ap (λ (a : StartAnswer). record { number = startNumber a; state = storedOf (c .refused-1282 .result .mac .state) }) (c .refused-1282 .ensures .0)
-    ∙ refused-128 (startTold (s .args .start)) (storedOf (c .refused-1282 .result .mac .state)) 1 (ap startNumber (m .enum-told3 .given .1)) (c .refused-1282 .ensures .1)
-
-returns-4 : tie.Need-returns-4
-returns-4 c =
-    let m = c .before in
-    let s = m .before .before .before in
-    ap (λ (a : StartAnswer). record { number = startNumber a; state = storedOf (c .refused-1283 .result .mac .state) }) (c .refused-1283 .ensures .0)
-    ∙ refused-128 (startTold (s .args .start)) (storedOf (c .refused-1283 .result .mac .state)) 2 (ap startNumber (m .enum-told4 .given .1)) (c .refused-1283 .ensures .1)
+    let s = m .before .before in
+    let r = c .refused-128 in
+    ap (λ (a : StartAnswer). record { number = startNumber a; state = storedOf (r .result .mac .state) }) (r .ensures .0)
+    ∙ refused-as (startTold (s .args .start)) (storedOf (r .result .mac .state)) _ (s .args .start .answer) (m .match .keys2) refl (r .ensures .1)
 
 pub begin-from-spec : {M : Type 1} → statement M
 begin-from-spec =
     tie.close
-    (tie.spec
-    (λ c. search needs)
-    begin-128-requires
-    (λ c. search needs)
-    (λ c κs. search needs)
-    (λ c. search needs)
-    (λ c κs. search needs)
-    (λ c. search needs)
-    (λ c κs. search needs)
-    returns
-    returns-2
-    returns-3
-    returns-4)
+    (tie.spec (λ c. search needs) begin-128-requires (λ c κs. search needs) returns returns-2)

@@ -9,7 +9,7 @@ use Rattle.keystream.specs.Starts.{StartOutcome, startNumber, startTag₂₅₆
 use Rattle.registers.specs.Stored.{storedOf}
 use Rattle.mac.specs.Calls.{Ready, begun-256, startOutcome-256}
 use Rattle.mac.proofs.Loaded.{accepted-width, ready-256}
-use Rattle.mac.proofs.Outcomes.{refused-256, started-256}
+use Rattle.mac.proofs.Outcomes.{refused-as, started-as}
 use Rattle.mac.proofs.zuc256.new.Statement.{statement}
 use Rattle.mac.proofs.zuc256.new.Tie as tie
 
@@ -44,53 +44,21 @@ returns c =
     let m = c .before .before .before in
     let n = m .before .before .before in
     let a = n .before .before .before .args in
-    started-256 (startTold (n .new-with-d .result)) (storedOf (c .begin-256 .result)) (a .width) (ap startNumber (m .enum-told .given .1)) (c .begin-256 .ensures)
+    started-as (startTold (n .new-with-d .result)) (storedOf (c .begin-256 .result)) _ (ap startNumber (m .enum-told .given .1)) (c .begin-256 .ensures)
     ∙ ap (begun-256 (a .width)) (n .new-with-d .ensures)
 
 returns-2 : tie.Need-returns-2
 unfolding startOutcome-256
 returns-2 c =
     let m = c .before in
-    let n = m .before .before .before in
+    let n = m .before .before in
     let a = n .before .before .before .args in
-    ap (λ (x : StartAnswer). record { number = startNumber x; state = storedOf (c .refused .result .mac .state) }) (c .refused .ensures .0)
-    ∙ refused-256 (startTold (n .new-with-d .result)) (storedOf (c .refused .result .mac .state)) (a .width) 0 (ap startNumber (m .enum-told2 .given .1)) (c .refused .ensures .1)
-    ∙ ap (begun-256 (a .width)) (n .new-with-d .ensures)
-
-returns-3 : tie.Need-returns-3
-unfolding startOutcome-256
-returns-3 c =
-    let m = c .before in
-    let n = m .before .before .before in
-    let a = n .before .before .before .args in
-    ap (λ (x : StartAnswer). record { number = startNumber x; state = storedOf (c .refused2 .result .mac .state) }) (c .refused2 .ensures .0)
-    ∙ refused-256 (startTold (n .new-with-d .result)) (storedOf (c .refused2 .result .mac .state)) (a .width) 1 (ap startNumber (m .enum-told3 .given .1)) (c .refused2 .ensures .1)
-    ∙ ap (begun-256 (a .width)) (n .new-with-d .ensures)
-
-returns-4 : tie.Need-returns-4
-unfolding startOutcome-256
-returns-4 c =
-    let m = c .before in
-    let n = m .before .before .before in
-    let a = n .before .before .before .args in
-    ap (λ (x : StartAnswer). record { number = startNumber x; state = storedOf (c .refused3 .result .mac .state) }) (c .refused3 .ensures .0)
-    ∙ refused-256 (startTold (n .new-with-d .result)) (storedOf (c .refused3 .result .mac .state)) (a .width) 2 (ap startNumber (m .enum-told4 .given .1)) (c .refused3 .ensures .1)
+    let r = c .refused in
+    ap (λ (x : StartAnswer). record { number = startNumber x; state = storedOf (r .result .mac .state) }) (r .ensures .0)
+    ∙ refused-as (startTold (n .new-with-d .result)) (storedOf (r .result .mac .state)) _ (n .new-with-d .result .answer) (m .match .keys2) refl (r .ensures .1)
     ∙ ap (begun-256 (a .width)) (n .new-with-d .ensures)
 
 pub new-spec : {M : Type 1} → statement M
 new-spec =
     tie.close
-    (tie.spec
-    (λ c κs. search needs)
-    (λ c. search needs)
-    begin-256-requires
-    (λ c. search needs)
-    (λ c κs. search needs)
-    (λ c. search needs)
-    (λ c κs. search needs)
-    (λ c. search needs)
-    (λ c κs. search needs)
-    returns
-    returns-2
-    returns-3
-    returns-4)
+    (tie.spec (λ c κs. search needs) (λ c. search needs) begin-256-requires (λ c κs. search needs) returns returns-2)
