@@ -14,7 +14,7 @@ use Rattle.keystream.specs.Starts.{rowOf}
 use Rattle.registers.specs.Stored.{Held, Stored, Width, formed, packed, taggingOf}
 use Rattle.registers.specs.Tagging.{Tagging, begun-EIA3, begun-ZUC256, ended, extraState, leftOver, updated}
 use Rattle.registers.proofs.Packed.{and-both, good-EIA3, good-ZUC256, good-updated, well-formed, width-whole}
-use Rattle.registers.proofs.Rule.{drawn-EIA3, drawn-ZUC256, drawn-closing-EIA3, drawn-closing-ZUC256}
+use Rattle.tagging.proofs.Rule.{drawn-EIA3, drawn-ZUC256, drawn-closing-EIA3, drawn-closing-ZUC256}
 use Rattle.mac.specs.Calls.{formed-128, updateOutcome}
 use Rattle.mac.specs.Runs.{Updates, joined}
 use Rattle.mac.proofs.Loaded.{Bytes, cells-128, cells-256, row-of}

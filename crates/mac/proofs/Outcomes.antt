@@ -23,7 +23,7 @@ use Rattle.keystream.specs.Starts.{StartOutcome, startNumber, isWidth, require,
 use Rattle.registers.specs.Stored.{Stored, Width, formed, packed, tagWords, zeroStored}
 use Rattle.registers.specs.Tagging.{begun-EIA3, begun-ZUC256, closed-EIA3, closed-ZUC256, updated}
 use Rattle.registers.proofs.Packed.{width-whole}
-use Rattle.registers.proofs.Rule.{rule-EIA3, rule-ZUC256}
+use Rattle.tagging.proofs.Rule.{rule-EIA3, rule-ZUC256}
 use Rattle.mac.specs.Calls.{Once, Outcome, checked, closing, formed-128, ifStarted, noWords, once-from-128, once-from-256, onceOutcome-128, onceOutcome-256, onceOutcome-EIA3, refusedStart}
 use Rattle.mac.proofs.Loaded.{width-of}
 

@@ -7,10 +7,10 @@ ghost use Rattle.registers.specs.Stored.{Held, storedOf, zeroStored};
 use keystream::Start;
 use keystream::StartAnswer;
 use registers::TagState;
-use registers::closing::close_128;
 use registers::forms::is_formed;
 use registers::forms::zero_state;
-use registers::updates::begin_128;
+use tagging::closing::close_128;
+use tagging::updates::begin_128;
 use words::bits_fit;
 use zuc::boxes::S0;
 use zuc::boxes::S1;
@@ -127,7 +127,7 @@ fn update_state(ok: bool, state: TagState, message: &[u8]) -> Update
     }
     let t0 = S0;
     let t1 = S1;
-    let next = registers::updates::update(&t0, &t1, state, message);
+    let next = tagging::updates::update(&t0, &t1, state, message);
     Update {
         answer: UpdateAnswer::Done,
         state: next,

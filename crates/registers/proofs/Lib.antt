@@ -1,13 +1,6 @@
 pub mod Message
 pub mod Cutting
-pub mod Followed
-pub mod Rule
 pub mod Lookup
 pub mod Double
 pub mod Widths
 pub mod Packed
-pub mod Moves
-pub mod Bulk
-pub mod Ahead
-pub mod Last
-pub mod Ends

@@ -4,10 +4,10 @@ use mathlib.Core.List.{List, [], _∷_}
 use mathlib.Core.Logic.{⊎-elim}
 use Prim.Native.Nat.{ℕ, _+_, _*_, _/_, _%_, _^_, _<_, _≤_}
 use native.Mathlib.Omega.{arith}
-use native.Mathlib.Nat.{lt-of-lt-of-le, mod-eq-of-lt, pow-le-pow-right, zero-add}
+use native.Mathlib.Nat.{add-zero, lt-of-lt-of-le, mod-eq-of-lt, mul-mod-left, pow-le-pow-right, zero-add}
 use lib.Arith.{digits-lt}
 use lib.Bits.{xor-block, xor-lt}
-use lib.Pow.{high, low, shr-lt}
+use lib.Pow.{high, low, mod-pow-add, shl-shr, shr-lt}
 use Rattle.standard.specs.Notation.{_⊕_}
 use Rattle.standard.specs.Bits.{M, bitOf, window, z}
 use Rattle.standard.specs.Generator.{State, _⟨_⟩, after, next, wordAt}
@@ -19,8 +19,14 @@ use Rattle.standard.proofs.Window.{bit-window, window-cell, window-cells, windo
 use borrow.Author.Tests.{ne-eqb}
 use Rattle.registers.specs.Lookup.{between, summed}
 use Rattle.registers.specs.Stored.{Width, _‖₁₂₈_, _‖₆₄_, fresh, keyOf, keyWords, tagOf, tagWords}
-use Rattle.registers.proofs.Followed.{moved-up}
 use Rattle.registers.proofs.Message.{z-lt}
+
+-- a key pair moved up by t bits is its low half on high
+pub moved-up : (t key : ℕ) → key * 2 ^ t % 2 ^ (t + t) ≡ key % 2 ^ t * 2 ^ t
+moved-up t key =
+    mod-pow-add (key * 2 ^ t) t t
+    ∙ ap₂ (λ (x y : ℕ). x % 2 ^ t * 2 ^ t + y) (shl-shr key t) (mul-mod-left key (2 ^ t))
+    ∙ add-zero (key % 2 ^ t * 2 ^ t)
 
 -- a key pair moved up by half, in its halves
 moved-low : (t hi lo : ℕ) → lo < 2 ^ t → (hi * 2 ^ t + lo) * 2 ^ t % 2 ^ (t + t) ≡ lo * 2 ^ t

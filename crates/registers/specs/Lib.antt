@@ -1,4 +1,3 @@
 pub mod Tagging
 pub mod Stored
 pub mod Lookup
-pub mod Narrow

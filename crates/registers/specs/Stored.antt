@@ -3,15 +3,14 @@ use mathlib.Core.Bool.{Bool, true, _&&_}
 use mathlib.Core.List.{List, [], _∷_, _++_}
 use mathlib.Core.Logic.{_⊎_}
 use mathlib.Core.Path.{_≡_}
-use Prim.Native.Nat.{ℕ, _+_, _-_, _*_, _/_, _%_, _^_, _<_, _≤_}
+use Prim.Native.Nat.{ℕ, _+_, _-_, _*_, _/_, _%_, _^_, _<_}
 use lib.Dec.{eqb, ltb}
 use lib.ListN.{drop, length, replicate, take}
 use Rattle.standard.specs.Notation.{if_then_else_}
 use Rattle.standard.specs.Bits.{window, z}
 use Rattle.standard.specs.Generator.{Cells, State, _⟨_⟩, after, wellFormed, wordAt, zeros}
-use Rattle.standard.specs.Loading.{listed}
-use Rattle.zuc.specs.Reading.{Draw, stateOf}
-use Rattle.registers.specs.Tagging.{Tagging, extraState, extraWord, updated}
+use Rattle.zuc.specs.Reading.{stateOf}
+use Rattle.registers.specs.Tagging.{Tagging}
 use Rattle.registers.specs.declared.Fresh.{Fresh}
 use Rattle.registers.specs.declared.TagState.{TagState}
 
@@ -136,43 +135,3 @@ wordsOf r = record { words = r .words; state = stateOf (r .next) }
 -- the next t bits of a generator, and its state after them
 unfoldable pub fresh : ℕ → State → Words
 fresh width σ = record { words = tagWords width (window (z (wordAt σ)) 0 (width * 8)); state = after (width / 4) σ }
-
--- the bits of words drawn before they are used
-abbrev pub bitsOf : List ℕ → ℕ → ℕ
-bitsOf words = z (λ j. words ⟨ j ⟩)
-
--- a struct where nothing waits
-abbrev pub emptyOf : ℕ → State → List ℕ → List ℕ → Stored
-emptyOf width σ key tag = record { generator = σ; key = key; tag = tag; rem = replicate 16 0; cnt = 0; width = width }
-
--- the key pair and the tag after whole blocks, whatever generator drew the words
-abbrev pub fedBy : ℕ → List ℕ → List ℕ → List ℕ → List ℕ → List ℕ → List ℕ → Type 0
-fedBy width key tag words part key′ tag′ =
-    (σ : State) → Held (emptyOf width σ key tag) → words ≡ listed (wordAt σ) 0 (length words)
-    → emptyOf width (after (length part / 4) σ) key′ tag′ ≡ packed width (updated (width * 8) (taggingOf (emptyOf width σ key tag)) part)
-
--- bytes of whole blocks, some where a block is left
-pub record Portion (width left r : ℕ) : Type 0 where
-  pub most : r ≤ 256
-  pub within : r ≤ left
-  pub some : width ≤ left → width ≤ r
-  pub count : ℕ
-  pub whole : r ≡ count * width
-
--- the bytes from i up to a returned place have been taken in: all that make whole blocks
-pub record Blocks (s : Stored) (message : List ℕ) (i : ℕ) (r : Stored) (at : ℕ) : Type 0 where
-  pub count : ℕ
-  pub at-is : at ≡ i + count * s .width
-  pub within : at ≤ length message
-  pub all : length message < at + s .width
-  pub held : r ≡ packed (s .width) (updated (s .width * 8) (taggingOf s) (take (at - i) (drop i message)))
-
--- the bytes from i up to a returned place have been taken in, at least one
-pub record Turned (s : Stored) (message : List ℕ) (i : ℕ) (r : Stored) (at : ℕ) : Type 0 where
-  pub on : i < at
-  pub within : at ≤ length message
-  pub held : r ≡ packed (s .width) (updated (s .width * 8) (taggingOf s) (take (at - i) (drop i message)))
-
--- the extra word of ZUC-128 and EIA3, and the generator after it
-abbrev pub extraDraw : Tagging → ℕ → Draw
-extraDraw st n = record { word = extraWord st n; state = extraState st n }

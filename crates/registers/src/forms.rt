@@ -6,7 +6,7 @@ ghost use Prim.Native.Nat.{};
 ghost use Rattle.registers.specs.Stored.{Held, allZero, formed, isWidth, storedOf, unused, zeroStored};
 use zuc::Zuc;
 
-pub fn is_width(width: usize) -> bool
+fn is_width(width: usize) -> bool
     ensures { λ r. ⌜ r ≡ isWidth width ⌝ }
 {
     match width {
@@ -15,7 +15,7 @@ pub fn is_width(width: usize) -> bool
     }
 }
 
-pub fn all_zero(words: &[u64]) -> bool
+fn all_zero(words: &[u64]) -> bool
     ensures { λ r. ⌜ r ≡ allZero (now (words .entry)) ⌝ }
 {
     let mut i: usize = 0;
@@ -29,7 +29,7 @@ pub fn all_zero(words: &[u64]) -> bool
 }
 
 // Whether the bytes from one on are zero.
-pub fn zero_from(rem: [u8; 16], from: usize) -> bool
+fn zero_from(rem: [u8; 16], from: usize) -> bool
     ensures { λ r. ⌜ r ≡ allZero (drop from rem) ⌝ }
 {
     let mut i = from;
@@ -42,7 +42,7 @@ pub fn zero_from(rem: [u8; 16], from: usize) -> bool
     true
 }
 
-pub fn unused_zero(width: usize, key: [u64; 4], tag: [u64; 2]) -> bool
+fn unused_zero(width: usize, key: [u64; 4], tag: [u64; 2]) -> bool
     ensures { λ r. ⌜ r ≡ allZero (unused width key tag) ⌝ }
 {
     match width {

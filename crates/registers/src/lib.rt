@@ -17,12 +17,8 @@ use sums::sum_128;
 use words::word_of;
 use zuc::Zuc;
 
-pub mod closing;
-pub mod drawn;
 pub mod forms;
-pub mod narrow;
 pub mod sums;
-pub mod updates;
 
 // The generator, the key pair and the tag in 64-bit words (as many as the width asks, the others zero), the bytes that wait for a
 // block with zeros after them, their count, and the tag's width in bytes.
@@ -42,7 +38,7 @@ pub struct Fresh {
 }
 
 // Four bytes of a block as one word, highest first.
-pub fn word_at(block: &[u8], at: usize) -> u32
+fn word_at(block: &[u8], at: usize) -> u32
     requires { ⌜ at + 4 ≤ length (now block) ⌝ }
     ensures { λ r. ⌜ r ≡ window (M (now (block .entry))) (at * 8) 32 ⌝ }
 {

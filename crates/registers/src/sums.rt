@@ -7,7 +7,7 @@ ghost use Rattle.registers.specs.Lookup.{between, byteLookedUp, lookedUp
 ghost use Rattle.registers.specs.Stored.{_‖₆₄_, _‖₁₂₈_};
 
 // The pair's multiples by each of sixteen numbers of four bits: the bit worth 8 is the first, so it stands for the window highest up.
-pub fn multiples(pair: u64) -> [u64; 16]
+fn multiples(pair: u64) -> [u64; 16]
     ensures { λ r. ⌜ r ≡ multiplesOf pair ⌝ }
 {
     let b = pair >> 1;
@@ -36,7 +36,7 @@ pub fn multiples(pair: u64) -> [u64; 16]
 }
 
 // The two groups of four bits in a byte that has `at` bits of the word before it.
-pub fn of_byte(table: &[u64; 16], b: u8, at: u32) -> u32
+fn of_byte(table: &[u64; 16], b: u8, at: u32) -> u32
     requires { ⌜ at ≤ 24 ⌝ }
     ensures { λ r. ⌜ r ≡ byteLookedUp (now (table .entry)) b at ⌝ }
 {
@@ -46,7 +46,7 @@ pub fn of_byte(table: &[u64; 16], b: u8, at: u32) -> u32
 }
 
 // Four bytes of a block, read as bytes: a group then costs one operation less than out of a word.
-pub fn look_up(table: &[u64; 16], block: &[u8], at: usize) -> u32
+fn look_up(table: &[u64; 16], block: &[u8], at: usize) -> u32
     requires { ⌜ at + 4 ≤ length (now block) ⌝ }
     ensures { λ r. ⌜ r ≡ lookedUp (now (table .entry)) (window (M (now (block .entry))) (at * 8) 32) 8 ⌝ }
 {
@@ -70,7 +70,7 @@ pub fn across(x: u64, y: u64) -> u64
     joined((x % 0x1_0000_0000) as u32, (y >> 32) as u32)
 }
 
-pub fn wide_look_up(
+fn wide_look_up(
     first: &[u64; 16],
     middle: &[u64; 16],
     last: &[u64; 16],
