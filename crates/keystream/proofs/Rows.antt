@@ -1,14 +1,15 @@
 -- The rule of each row of constants, by one test computed over the row; and a constant with bits or'd into it stays in 7 bits and nonzero.
 use borrow.Author.Tests.{leb-true}
 use lib.Bits.{bitOr, and-le-r, or-add-and}
-use lib.Dec.{leb}
+use lib.Dec.{leb, lit<}
 use lib.ListN.{getD, length}
 use mathlib.Core.Bool.{Bool, true, _&&_}
-use mathlib.Core.List.{List}
+use mathlib.Core.List.{List, [], _∷_}
 use mathlib.Core.Path.{_≡_, refl, subst, sym}
 use native.Mathlib.Omega.{arith}
-use Prim.Native.Nat.{ℕ, suc, _<_, _^_}
-use Rattle.keystream.specs.Rows.{Row}
+use Prim.Native.Nat.{ℕ, zero, suc, _+_, _-_, _<_, _^_}
+use Rattle.keystream.specs.Rows.{Inside, Row, place}
+use Rattle.keystream.specs.declared.zuc256.Places.{Places}
 use Rattle.standard.proofs.Table.{and-left, and-right, at, every}
 use Rattle.standard.specs.Loading.{D, d-keystream, d-tag₁₂₈, d-tag₃₂, d-tag₆₄}
 
@@ -48,3 +49,16 @@ d-tag₁₂₈-row = row 7 d-tag₁₂₈ refl refl
 
 pub or-some : (d x : ℕ) → 0 < d → 0 < bitOr d x
 or-some d x h = omega (arith, or-add-and d x, and-le-r d x)
+
+-- how far places reach past the 55 bytes, all together: computed over a table, this is 0
+abbrev pub past : List Places → ℕ
+past [] = 0
+past (p ∷ places) = (p .0 - 54) + (p .1 - 54) + (p .2 - 54) + past places
+
+pub inside : (places : List Places) → past places ≡ 0 → Inside places
+inside places e = record { first = λ i. each places e i .0; third = λ i. each places e i .1; last = λ i. each places e i .2 }
+  where
+    each : (places : List Places) → past places ≡ 0 → (i : ℕ) → (place places i .0 < 55) × (place places i .1 < 55) × (place places i .2 < 55)
+    each [] e i = (lit< tt, lit< tt, lit< tt)
+    each (p ∷ places) e zero = (omega arith, omega arith, omega arith)
+    each (p ∷ places) e (suc i) = each places (omega arith) i

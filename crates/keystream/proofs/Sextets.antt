@@ -2,12 +2,11 @@
 use lib.Dec.{lit<, lit≤}
 use lib.ListN.{getD}
 use mathlib.Core.List.{List, [], _∷_}
-use mathlib.Core.Path.{_≡_, _∙_, ap₂, refl, subst, sym}
+use mathlib.Core.Path.{_≡_, _∙_, ap₂, refl}
 use native.Mathlib.Nat.{lt-trans}
 use native.Mathlib.Omega.{arith}
-use Prim.Native.Nat.{ℕ, _%_, _*_, _+_, _/_, _<_, _^_}
-use Rattle.keystream.specs.Rows.{sextets, sextetsOf}
-use Rattle.keystream.specs.declared.zuc256.Sextets.{Sextets}
+use Prim.Native.Nat.{ℕ, zero, suc, _%_, _*_, _+_, _/_, _<_, _^_}
+use Rattle.keystream.specs.Rows.{Fit, besides, sextets}
 use Rattle.standard.proofs.Cells.{All}
 use Rattle.standard.proofs.Window.{bitAt-lt, window-bitOf, window-lt, window-split}
 use Rattle.standard.specs.Bits.{M, bitAt, bitOf, window}
@@ -42,10 +41,19 @@ pub last-four : (iv : List ℕ) → sextets (getD iv 20 0 ∷ getD iv 21 0 ∷ g
 unfolding listed IV₂₅₆ window M bitAt bitOf
 last-four iv = refl
 
--- the numbers of a split fit beside a constant of 7 bits
-pub sextets-fit : (r : Sextets) (bytes : List ℕ) → sextetsOf r ≡ sextets bytes → All (λ x. x < 2 ^ 7) (sextetsOf r)
-unfolding listed
-sextets-fit r bytes e = subst (All (λ x. x < 2 ^ 7)) (sym e) (fit 0, (fit 6, (fit 12, (fit 18, tt))))
+-- what stands beside the constants fits beside 7 bits
+pub besides-fit : (k iv : List ℕ) → getD k 31 0 < 2 ^ 8 → Fit 7 (besides k iv)
+unfolding listed IV₂₅₆
+besides-fit k iv h =
+    each (besides k iv) (z, (z, (z, (z, (z, (w _, (w _, (w _, (w _, (w _, (w _, (w _, (w _, (z, (omega arith, (omega arith, tt))))))))))))))))
   where
-    fit : (i : ℕ) → window (M bytes) i 6 < 2 ^ 7
-    fit i = lt-trans (window-lt (M bytes) (M-lt bytes) i 6) (lit< tt)
+    z : 0 < 2 ^ 7
+    z = lit< tt
+
+    w : (i : ℕ) → window (M iv) i 6 < 2 ^ 7
+    w i = lt-trans (window-lt (M iv) (M-lt iv) i 6) (lit< tt)
+
+    each : (row : List ℕ) → All (λ x. x < 2 ^ 7) row → Fit 7 row
+    each [] a i = z
+    each (x ∷ row) a zero = a .0
+    each (x ∷ row) a (suc i) = each row (a .1) i

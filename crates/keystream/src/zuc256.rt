@@ -1,9 +1,9 @@
 // ZUC-256: the split of the IV, the load and the starts.
-ghost use lib.ListN.{length};
+ghost use lib.ListN.{drop, length, take};
 ghost use mathlib.Core.List.{[], _∷_};
 ghost use mathlib.Core.Path.{_≡_};
 ghost use Rattle.keystream.specs.Starts.{startTold, start₂₅₆, startTag₂₅₆};
-ghost use Rattle.keystream.specs.Rows.{Concat, Row, sextets, sextetsOf};
+ghost use Rattle.keystream.specs.Rows.{Concat, Fit, Inside, Joined, Row, besides, sextets, sextetsOf};
 ghost use Rattle.standard.specs.Generator.{Cells};
 ghost use Rattle.standard.specs.Loading.{d-keystream, load₂₅₆};
 ghost use Rattle.zuc.specs.Reading.{stateOf};
@@ -90,6 +90,34 @@ const D_128: [u8; 16] = [
     0x30,
 ];
 
+// Where key and IV stand, one behind the other.
+const K: usize = 0;
+
+const IV: usize = 32;
+
+// The places of a loaded cell's bytes: before its constant, behind it, and last.
+pub struct Places(pub usize, pub usize, pub usize);
+
+// The loaded cells, as the paper lists them.
+const PLACES: [Places; 16] = [
+    Places(K + 0, K + 21, K + 16),
+    Places(K + 1, K + 22, K + 17),
+    Places(K + 2, K + 23, K + 18),
+    Places(K + 3, K + 24, K + 19),
+    Places(K + 4, K + 25, K + 20),
+    Places(IV + 0, K + 5, K + 26),
+    Places(IV + 1, K + 6, K + 27),
+    Places(IV + 10, K + 7, IV + 2),
+    Places(K + 8, IV + 3, IV + 11),
+    Places(K + 9, IV + 12, IV + 4),
+    Places(IV + 5, K + 10, K + 28),
+    Places(K + 11, IV + 6, IV + 13),
+    Places(K + 12, IV + 7, IV + 14),
+    Places(K + 13, IV + 15, IV + 8),
+    Places(K + 14, IV + 16, IV + 9),
+    Places(K + 15, K + 30, K + 29),
+];
+
 // Four numbers of 6 bits.
 pub struct Sextets {
     pub a: u8,
@@ -117,31 +145,55 @@ fn concat_bits(a: u8, b: u8, c: u8, d: u8) -> u32
     ((a as u32) << 23) + ((b as u32) << 16) + ((c as u32) << 8) + (d as u32)
 }
 
-// The loaded cells, as the paper lists them.
-fn load(d: [u8; 16], k: [u8; 32], iv: [u8; 23]) -> Zuc
-    requires { ⌜ Row 7 d ⌝ }
-    ensures { λ r. ⌜ (stateOf r ≡ load₂₅₆ d k iv) × Cells (stateOf r .cells) ⌝ }
+// What stands beside each constant: nothing, IV17 to IV24, and the halves of K31.
+fn beside(x: [u8; 55]) -> [u8; 16]
+    ensures { λ r. ⌜ r ≡ besides (take 32 x) (drop 32 x) ⌝ }
 {
-    let p = split(iv[17], iv[18], iv[19]);
-    let q = split(iv[20], iv[21], iv[22]);
-    let s = [
-        concat_bits(k[0], d[0], k[21], k[16]),
-        concat_bits(k[1], d[1], k[22], k[17]),
-        concat_bits(k[2], d[2], k[23], k[18]),
-        concat_bits(k[3], d[3], k[24], k[19]),
-        concat_bits(k[4], d[4], k[25], k[20]),
-        concat_bits(iv[0], d[5] | p.a, k[5], k[26]),
-        concat_bits(iv[1], d[6] | p.b, k[6], k[27]),
-        concat_bits(iv[10], d[7] | p.c, k[7], iv[2]),
-        concat_bits(k[8], d[8] | p.d, iv[3], iv[11]),
-        concat_bits(k[9], d[9] | q.a, iv[12], iv[4]),
-        concat_bits(iv[5], d[10] | q.b, k[10], k[28]),
-        concat_bits(k[11], d[11] | q.c, iv[6], iv[13]),
-        concat_bits(k[12], d[12] | q.d, iv[7], iv[14]),
-        concat_bits(k[13], d[13], iv[15], iv[8]),
-        concat_bits(k[14], d[14] | (k[31] >> 4), iv[16], iv[9]),
-        concat_bits(k[15], d[15] | (k[31] % 16), k[30], k[29]),
-    ];
+    let p = split(x[IV + 17], x[IV + 18], x[IV + 19]);
+    let q = split(x[IV + 20], x[IV + 21], x[IV + 22]);
+    [
+        0,
+        0,
+        0,
+        0,
+        0,
+        p.a,
+        p.b,
+        p.c,
+        p.d,
+        q.a,
+        q.b,
+        q.c,
+        q.d,
+        0,
+        x[K + 31] >> 4,
+        x[K + 31] % 16,
+    ]
+}
+
+// Cells joined from their parts.
+fn join(places: [Places; 16], d: [u8; 16], b: [u8; 16], x: [u8; 55]) -> [u32; 16]
+    requires { ⌜ Inside places × Row 7 d × Fit 7 b ⌝ }
+    ensures { λ r. ⌜ Joined places d b x r ⌝ }
+{
+    let mut s = [0u32; 16];
+    for i in 0usize..16 {
+        let p = places[i];
+        let first = p.0;
+        let third = p.1;
+        let last = p.2;
+        s[i] = concat_bits(x[first], d[i] | b[i], x[third], x[last]);
+    }
+    s
+}
+
+// The loaded cells of a key and the IV behind it.
+fn load(d: [u8; 16], x: [u8; 55]) -> Zuc
+    requires { ⌜ Row 7 d ⌝ }
+    ensures { λ r. ⌜ (stateOf r ≡ load₂₅₆ d (take 32 x) (drop 32 x)) × Cells (stateOf r .cells) ⌝ }
+{
+    let b = beside(x);
+    let s = join(PLACES, d, b, x);
     Zuc { s, r1: 0, r2: 0 }
 }
 
@@ -166,11 +218,10 @@ fn start(d: [u8; 16], key: &[u8], iv: &[u8]) -> Start
     if iv.len() != 23 {
         return refused(StartAnswer::BadIv);
     }
-    let mut k = [0u8; 32];
-    copy(&mut k, key);
-    let mut v = [0u8; 23];
-    copy(&mut v, iv);
-    started_from(load(d, k, v))
+    let mut x = [0u8; 55];
+    copy(&mut x[..32], key);
+    copy(&mut x[32..], iv);
+    started_from(load(d, x))
 }
 
 // A generator of the ZUC-256 keystream, or refusal 2 for a key that is not 32 bytes and 3 for an IV that is not 23.

@@ -1,10 +1,13 @@
--- `start` is the ZUC-256 start with a row: each refusal by its test, and else start-up of the cells loaded from copies of key and IV.
+-- `start` is the ZUC-256 start with a row: each refusal by its test, and else start-up of the cells loaded from a copy of key and IV.
+use borrow.Rule.Slice.PartMut.{putMid}
 use borrow.Author.Tests.{eq-eqb, ne-eqb}
 use denote.Ref.{now}
-use lib.ListN.{length}
-use mathlib.Core.List.{List}
-use Prim.Native.Nat.{ℕ}
-use mathlib.Core.Path.{_∙_, ap, ap₂}
+use lib.ListN.{drop, drop-of-length-le, length, length-append, take}
+use lib.Seq.{drop-at, take-at}
+use mathlib.Core.List.{List, _++_, append-nil}
+use native.Mathlib.Omega.{arith}
+use Prim.Native.Nat.{ℕ, _≤_}
+use mathlib.Core.Path.{_≡_, _∙_, ap, ap₂, refl}
 use Rattle.keystream.specs.Starts.{begun, start₂₅₆}
 use Rattle.standard.specs.Loading.{load₂₅₆}
 use borrow.Author.Needs.{needs}
@@ -24,6 +27,25 @@ returns-2 c =
     rw (eq-eqb (length (now (a .key))) 32 (c .before .before .if1 .left), ne-eqb (length (now (a .iv))) 23 (c .before .if2 .taken))
     (c .refused2 .ensures)
 
+ends : (k rest : List ℕ) → length k ≡ 32 → length rest ≡ 23 → 55 ≤ length (k ++ rest)
+ends k rest l m = omega (arith, length-append k rest)
+
+part-x-end : tie.Need-part-x-end
+part-x-end c =
+    ends (c .before .copy .last .0) _ (ap length (c .before .copy .ensures) ∙ c .before .before .before .before .if1 .left) refl
+
+-- the two copies, in the array that they were made in
+copied : (d k rest v key iv : List ℕ) → k ≡ key → v ≡ iv → length key ≡ 32 → length rest ≡ 23
+    → load₂₅₆ d (take 32 (putMid 32 23 (k ++ rest) v)) (drop 32 (putMid 32 23 (k ++ rest) v)) ≡ load₂₅₆ d key iv
+copied d k rest v key iv e f l m =
+    ap (λ (x : List ℕ). load₂₅₆ d (take 32 x) (drop 32 x)) both ∙ ap₂ (load₂₅₆ d) (take-at key iv 32 l) (drop-at key iv 32 l)
+  where
+    both : putMid 32 23 (k ++ rest) v ≡ key ++ iv
+    both =
+        ap₂ (λ (p q : List ℕ). putMid 32 23 (p ++ rest) q) e f
+        ∙ ap₂ (λ (p q : List ℕ). p ++ (iv ++ drop 23 q)) (take-at key rest 32 l) (drop-at key rest 32 l)
+        ∙ ap (λ (q : List ℕ). key ++ q) (ap (λ (q : List ℕ). iv ++ q) (drop-of-length-le rest {i = 23} (omega arith)) ∙ append-nil iv)
+
 returns-3 : tie.Need-returns-3
 unfolding start₂₅₆
 returns-3 c =
@@ -31,12 +53,13 @@ returns-3 c =
     let copied-key = copied-iv .before .before .before in
     let tested = copied-key .before .before in
     let a = tested .before .before .before .before .args in
-    rw (eq-eqb (length (now (a .key))) 32 (tested .before .if1 .left), eq-eqb (length (now (a .iv))) 23 (tested .if2 .left))
+    let key = now (a .key) in
+    let iv = now (a .iv) in
+    rw (eq-eqb (length key) 32 (tested .before .if1 .left), eq-eqb (length iv) 23 (tested .if2 .left))
     (c .started-from .ensures
-    ∙ ap begun (c .before .load .ensures .0)
-    ∙ ap₂ (λ (k iv : List ℕ). begun (load₂₅₆ (a .d) k iv)) (copied-key .copy .ensures) (copied-iv .copy2 .ensures))
+    ∙ ap begun (c .before .load .ensures .0 ∙ copied (a .d) (copied-key .copy .last .0) _ (copied-iv .copy2 .last .0) key iv (copied-key .copy .ensures) (copied-iv .copy2 .ensures) (tested .before .if1 .left) refl))
 
 pub start-spec : {M : Type 1} → statement M
 start-spec =
     tie.close
-    (tie.spec (λ c κs. search needs) returns (λ c κs. search needs) returns-2 (λ c. search needs) (λ c κs. search needs) (λ c. search needs) (λ c κs. search needs) (λ c κs. search needs) (λ c κs. search needs) returns-3)
+    (tie.spec (λ c κs. search needs) returns (λ c κs. search needs) returns-2 (λ c. search needs) (λ c. search needs) (λ c κs. search needs) (λ c. search needs) (λ c. search needs) part-x-end (λ c κs. search needs) (λ c κs. search needs) (λ c κs. search needs) returns-3)
