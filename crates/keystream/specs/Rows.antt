@@ -1,4 +1,4 @@
--- What the loads ask of their constants: entries that fit between the key's bits and the IV's and are not zero, so that no cell is.
+-- What the loads ask of their constants: entries that fit between the key's bits and the IV's and are not zero, so that no cell is. And the parts of the ZUC-256 load.
 use mathlib.Core.List.{List, [], _∷_, _++_}
 use mathlib.Core.Path.{_≡_}
 use Prim.Native.Nat.{ℕ, _%_, _*_, _/_, _^_, _<_}
@@ -19,9 +19,6 @@ pub record Row (bits : ℕ) (row : List ℕ) : Type 0 where
 abbrev pub Fit : ℕ → List ℕ → Type 0
 Fit bits row = (i : ℕ) → getD row i 0 < 2 ^ bits
 
-abbrev pub place : List Places → ℕ → Places
-place places i = getD places i (0, 0, 0)
-
 -- the four 6-bit numbers of three bytes, highest bits first
 abbrev pub sextetsOf : Sextets → List ℕ
 sextetsOf r = r .a ∷ r .b ∷ r .c ∷ r .d ∷ []
@@ -29,22 +26,25 @@ sextetsOf r = r .a ∷ r .b ∷ r .c ∷ r .d ∷ []
 abbrev pub sextets : List ℕ → List ℕ
 sextets bytes = listed (λ j. window (M bytes) (j * 6) 6) 0 4
 
--- the bits beside the constants of ZUC-256, by key and IV: nothing, IV17 to IV24, and the halves of K31
+-- the bits beside d0..d15, by key and IV: none, IV17..IV24, or a half of K31
 abbrev pub besides : List ℕ → List ℕ → List ℕ
 besides k iv = 0 ∷ 0 ∷ 0 ∷ 0 ∷ 0 ∷ (listed (IV₂₅₆ iv) 17 8 ++ (0 ∷ k ⟨ 31 ⟩ / 2 ^ 4 ∷ k ⟨ 31 ⟩ % 2 ^ 4 ∷ []))
 
--- each place is one of 55 bytes
+abbrev pub place : List Places → ℕ → Places
+place places i = getD places i (0, 0, 0)
+
+-- each place is that of one of 55 bytes
 pub record Inside (places : List Places) : Type 0 where
   pub first : (i : ℕ) → place places i .0 < 55
   pub third : (i : ℕ) → place places i .1 < 55
   pub last : (i : ℕ) → place places i .2 < 55
 
--- the cells of middles, each between bytes of x at its places
+-- the cells of these middles, each between bytes of x at its places
 abbrev pub joined : List Places → List ℕ → List ℕ → List ℕ
 joined places middles x =
     listed (λ i. x ⟨ place places i .0 ⟩ ‖₇ middles ⟨ i ⟩ ‖₈ x ⟨ place places i .1 ⟩ ‖₈ x ⟨ place places i .2 ⟩) 0 16
 
--- cells with constants d and bits beside them in the middle
+-- such cells, all in range, whose middles are constants d with bits beside them
 pub record Joined (places : List Places) (d bits x cells : List ℕ) : Type 0 where
   pub is : cells ≡ joined places (listed (λ i. d ⟨ i ⟩ ∣ bits ⟨ i ⟩) 0 16) x
   pub range : Cells cells

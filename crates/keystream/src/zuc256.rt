@@ -90,15 +90,15 @@ const D_128: [u8; 16] = [
     0x30,
 ];
 
-// Where key and IV stand, one behind the other.
+// Where the key starts, and the IV behind it, in one array.
 const K: usize = 0;
 
 const IV: usize = 32;
 
-// The places of a loaded cell's bytes: before its constant, behind it, and last.
+// The places of a loaded cell's bytes: the one before its constant, and the two behind it.
 pub struct Places(pub usize, pub usize, pub usize);
 
-// The loaded cells, as the paper lists them.
+// The bytes of the loaded cells s0 to s15, as the paper lists them.
 const PLACES: [Places; 16] = [
     Places(K + 0, K + 21, K + 16),
     Places(K + 1, K + 22, K + 17),
@@ -145,12 +145,13 @@ fn concat_bits(a: u8, b: u8, c: u8, d: u8) -> u32
     ((a as u32) << 23) + ((b as u32) << 16) + ((c as u32) << 8) + (d as u32)
 }
 
-// What stands beside each constant: nothing, IV17 to IV24, and the halves of K31.
+// The bits beside the constants d0 to d15: none, IV17 to IV24, or a half of K31.
 fn beside(x: [u8; 55]) -> [u8; 16]
     ensures { λ r. ⌜ r ≡ besides (take 32 x) (drop 32 x) ⌝ }
 {
     let p = split(x[IV + 17], x[IV + 18], x[IV + 19]);
     let q = split(x[IV + 20], x[IV + 21], x[IV + 22]);
+    let k31 = x[31];
     [
         0,
         0,
@@ -166,12 +167,12 @@ fn beside(x: [u8; 55]) -> [u8; 16]
         q.c,
         q.d,
         0,
-        x[K + 31] >> 4,
-        x[K + 31] % 16,
+        k31 >> 4,
+        k31 % 16,
     ]
 }
 
-// Cells joined from their parts.
+// The cells: constants d with bits b beside them, each between the bytes of x at its places.
 fn join(places: [Places; 16], d: [u8; 16], b: [u8; 16], x: [u8; 55]) -> [u32; 16]
     requires { ⌜ Inside places × Row 7 d × Fit 7 b ⌝ }
     ensures { λ r. ⌜ Joined places d b x r ⌝ }
@@ -197,7 +198,7 @@ fn load(d: [u8; 16], x: [u8; 55]) -> Zuc
     Zuc { s, r1: 0, r2: 0 }
 }
 
-// A slice copied into an array of its length, so that the load reads places that are known to be there.
+// A slice copied into as many places of an array, so that the load reads places that are known to be there.
 fn copy(to: &mut [u8], from: &[u8])
     requires { ⌜ length (now to) ≡ length (now from) ⌝ }
     ensures { λ _. ⌜ now (to .exit) ≡ now (from .entry) ⌝ }
