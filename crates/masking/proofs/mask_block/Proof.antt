@@ -1,4 +1,4 @@
--- `mask_block` draws a word a turn, as zuc's `block`, and masks its four bytes: after j turns the mask is left to do from byte 4j on.
+-- `mask_block` draws a word a turn, as bulk's `block`, and masks its four bytes: after j turns the mask is left to do from byte 4j on.
 use lib.ListN.{length, length-drop, length-take}
 use mathlib.Core.Path.{_≡_, refl, _∙_, subst, sym}
 use native.Mathlib.Omega.{arith}
