@@ -18,7 +18,7 @@ use Rattle.standard.specs.Bits.{M}
 use Rattle.standard.specs.Integrity.{T}
 use Rattle.standard.proofs.Window.{window-lt}
 use Rattle.registers.specs.Stored.{Good, Held, Stored, Width, _‖₆₄_, fresh, keyOf, keyWords, packed, tagOf, tagWords, taggingOf}
-use Rattle.registers.specs.Tagging.{fed, updated}
+use Rattle.registers.specs.Tagging.{updated}
 use Rattle.blocks.specs.Whole.{bitsOf, emptyOf}
 use Rattle.registers.proofs.Cutting.{updated-on}
 use Rattle.registers.proofs.Message.{window-after, z-lt}

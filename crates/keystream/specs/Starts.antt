@@ -1,7 +1,7 @@
 -- What the starts answer, in the numbers and order of document 01, "Refusal numbers".
 use lib.Dec.{eqb}
 use lib.ListN.{length}
-use mathlib.Core.Bool.{Bool, _||_}
+use mathlib.Core.Bool.{Bool}
 use mathlib.Core.List.{List}
 use Prim.Native.Nat.{ℕ}
 use Rattle.keystream.specs.declared.Start.{Start}
@@ -9,6 +9,7 @@ use Rattle.keystream.specs.declared.StartAnswer.{StartAnswer}
 use Rattle.keystream.specs.declared.StartAnswer.the-variants.{Started, BadWidth, BadKey, BadIv}
 use Rattle.standard.specs.Confidentiality.{IV-EEA3}
 use Rattle.standard.specs.Generator.{State, started, zeros}
+use Rattle.standard.specs.Integrity.{isWidth}
 use Rattle.standard.specs.Loading.{d-tag₁₂₈, d-tag₃₂, d-tag₆₄, load₁₂₈, load₂₅₆}
 use Rattle.standard.specs.Notation.{if_then_else_}
 use Rattle.zuc.specs.Reading.{stateOf}
@@ -45,9 +46,6 @@ unfoldable pub start₂₅₆ : List ℕ → List ℕ → List ℕ → StartOutc
 start₂₅₆ d key iv = require (eqb (length key) 32) 2 (require (eqb (length iv) 23) 3 (begun (load₂₅₆ d key iv)))
 
 -- the row of a tag of 4, 8 or 16 bytes; every other width is refused
-abbrev pub isWidth : ℕ → Bool
-isWidth width = eqb width 4 || eqb width 8 || eqb width 16
-
 abbrev pub rowOf : ℕ → List ℕ
 rowOf width = if eqb width 4 then d-tag₃₂ else if eqb width 8 then d-tag₆₄ else d-tag₁₂₈
 

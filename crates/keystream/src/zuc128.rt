@@ -1,9 +1,8 @@
 // ZUC-128: the load and the start.
 ghost use lib.ListN.{length};
 ghost use mathlib.Core.Path.{_≡_};
-ghost use Prim.Native.Nat.{_<_, _≤_, _^_};
+ghost use Prim.Native.Nat.{_<_, _^_};
 ghost use Rattle.keystream.specs.Starts.{startTold, start₁₂₈};
-ghost use Rattle.keystream.specs.Rows.{Row};
 ghost use Rattle.standard.specs.Generator.{Cells};
 ghost use Rattle.standard.specs.Loading.{D, load₁₂₈};
 ghost use Rattle.standard.specs.Notation.{_‖₈_, _‖₁₅_};

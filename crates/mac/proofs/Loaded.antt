@@ -1,18 +1,18 @@
 -- An accepted start is of well-formed cells: each loaded cell has a constant that is not zero, and fits in 31 bits.
 use mathlib.Core.Path.{_≡_, refl, sym, ap, _∙_, subst}
-use mathlib.Core.Bool.{Bool, true, false, _||_}
+use mathlib.Core.Bool.{Bool, true, false}
 use mathlib.Core.List.{List}
-use mathlib.Core.Logic.{_⊎_, inl, inr, ⊎-elim}
 use Prim.Native.Nat.{ℕ, suc, _+_, _-_, _*_, _^_, _<_, _≤_}
 use native.Mathlib.Omega.{arith}
 use native.Mathlib.Nat.{zero-add}
 use lib.Bits.{or-lt}
 use lib.Dec.{eqb, lit<}
 use lib.ListN.{getD, length}
-use borrow.Author.Tests.{eqb-true, le-ltb, lt-ltb}
+use borrow.Author.Tests.{le-ltb, lt-ltb}
 use Rattle.standard.specs.Notation.{if_then_else_, _‖₁₅_, _‖₇_, _‖₈_}
 use Rattle.standard.specs.Bits.{M}
 use Rattle.standard.specs.Generator.{Cells, _⟨_⟩, started}
+use Rattle.standard.specs.Integrity.{isWidth}
 use Rattle.standard.specs.Loading.{D, d-tag₁₂₈, d-tag₃₂, d-tag₆₄, IV₂₅₆, _∣_, cells₂₅₆, listed, load₁₂₈, load₂₅₆}
 use Rattle.standard.proofs.Cells.{InRange, all-cells}
 use Rattle.standard.proofs.Generator.{sound-started}
@@ -20,8 +20,9 @@ use Rattle.standard.proofs.Linear.{M-lt}
 use Rattle.standard.proofs.Listed.{getD-listed, length-listed}
 use Rattle.standard.proofs.Window.{window-lt}
 use Rattle.keystream.specs.Rows.{Row}
-use Rattle.keystream.specs.Starts.{StartOutcome, isWidth, require, rowOf, startTag₂₅₆, start₁₂₈, start₂₅₆}
+use Rattle.keystream.specs.Starts.{StartOutcome, require, rowOf, startTag₂₅₆, start₁₂₈, start₂₅₆}
 use Rattle.keystream.proofs.Rows.{D-row, d-tag₁₂₈-row, d-tag₃₂-row, d-tag₆₄-row, or-some}
+use Rattle.registers.proofs.Packed.{width-is}
 use Rattle.registers.specs.Stored.{Width}
 use Rattle.mac.specs.Calls.{Ready}
 
@@ -153,23 +154,12 @@ ready-256 w k iv hk hv =
     (λ e. sound-started (load₂₅₆ (rowOf w) k iv) (cells-256 (rowOf w) k iv (row-of w) hk hv))))
 
 -- the width of an accepted ZUC-256 start
-or-cases : (a b : Bool) → a || b ≡ true → (a ≡ true) ⊎ (b ≡ true)
-or-cases true b e = inl refl
-or-cases false b e = inr e
-
-pub width-of : (w : ℕ) → isWidth w ≡ true → Width w
-width-of w t =
-    ⊎-elim
-    (λ u. ⊎-elim (λ f. inl (eqb-true w 4 f)) (λ f. inr (inl (eqb-true w 8 f))) (or-cases (eqb w 4) (eqb w 8) u))
-    (λ f. inr (inr (eqb-true w 16 f)))
-    (or-cases (eqb w 4 || eqb w 8) (eqb w 16) t)
-
 pub accepted-width : (w : ℕ) (k iv : List ℕ) → startTag₂₅₆ w k iv .number ≡ 0 → Width w
 unfolding startTag₂₅₆
 accepted-width w k iv e = by (isWidth w) refl e
   where
     by : (b : Bool) → isWidth w ≡ b → require b 1 (start₂₅₆ (rowOf w) k iv) .number ≡ 0 → Width w
-    by true t h = width-of w t
+    by true t h = width-is w t
     by false t h = absurd (omega arith)
 
 -- ZUC-128 and EIA3 are never refused for a width

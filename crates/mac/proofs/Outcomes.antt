@@ -9,7 +9,7 @@ use lib.Dec.{eqb, leb}
 use lib.ListN.{length}
 use borrow.Author.Tests.{eqb-true, leb-true}
 use Rattle.standard.specs.Generator.{State, _⟨_⟩, keystream, started, wordAt}
-use Rattle.standard.specs.Integrity.{IV-EIA3, tag-EIA3, tag-ZUC256}
+use Rattle.standard.specs.Integrity.{IV-EIA3, tag-EIA3, tag-ZUC256, isWidth}
 use Rattle.standard.proofs.Generator.{same-words}
 use Rattle.standard.specs.Loading.{load₁₂₈, load₂₅₆}
 use Rattle.standard.proofs.Table.{and-right}
@@ -19,13 +19,12 @@ use types.Run.{OneOf}
 use Rattle.keystream.proofs.StartAnswer.{the-type}
 use Rattle.keystream.specs.declared.StartAnswer.{StartAnswer}
 use Rattle.keystream.specs.declared.StartAnswer.the-variants.{Started, BadWidth, BadKey, BadIv}
-use Rattle.keystream.specs.Starts.{StartOutcome, startNumber, isWidth, require, rowOf, startTag₂₅₆, start₁₂₈, start₂₅₆}
-use Rattle.registers.specs.Stored.{Stored, Width, formed, packed, tagWords, zeroStored}
+use Rattle.keystream.specs.Starts.{StartOutcome, startNumber, require, rowOf, startTag₂₅₆, start₁₂₈, start₂₅₆}
+use Rattle.registers.specs.Stored.{Stored, Width, formed, tagWords, zeroStored}
 use Rattle.registers.specs.Tagging.{begun-EIA3, begun-ZUC256, closed-EIA3, closed-ZUC256, updated}
-use Rattle.registers.proofs.Packed.{width-whole}
+use Rattle.registers.proofs.Packed.{width-is, width-whole}
 use Rattle.tagging.proofs.Rule.{rule-EIA3, rule-ZUC256}
 use Rattle.mac.specs.Calls.{Once, Outcome, checked, closing, formed-128, ifStarted, noWords, once-from-128, once-from-256, onceOutcome-128, onceOutcome-256, onceOutcome-EIA3, refusedStart}
-use Rattle.mac.proofs.Loaded.{width-of}
 
 -- an answer that a `match` found to be another than `Started`
 abbrev Refused : StartAnswer → Type 0
@@ -127,7 +126,7 @@ once-256-is w key iv m l = by (isWidth w) refl
         require-once noWords (eqb (length key) 32) 1 _ accepted _
         (require-once noWords (eqb (length iv) 23) 2 (record { number = 0; state = started (load₂₅₆ (rowOf w) key iv) }) accepted _
         (checked-tag noWords (leb l (length m * 8)) 5 _ _
-        (λ f. ap (tagWords w) (once-ZUC256 (width-of w e) (load₂₅₆ (rowOf w) key iv) m l (leb-true l (length m * 8) f)))))
+        (λ f. ap (tagWords w) (once-ZUC256 (width-is w e) (load₂₅₆ (rowOf w) key iv) m l (leb-true l (length m * 8) f)))))
     by false e = refl
 
 -- a ZUC-128 or EIA3 state is of width 4

@@ -10,8 +10,8 @@ use borrow.Author.Tests.{leb-true}
 use Rattle.standard.specs.Notation.{if_then_else_}
 use Rattle.standard.specs.Generator.{started}
 use Rattle.standard.specs.Loading.{load₁₂₈, load₂₅₆}
-use Rattle.standard.specs.Integrity.{IV-EIA3}
-use Rattle.keystream.specs.Starts.{StartOutcome, isWidth, require, rowOf, startTag₂₅₆, start₁₂₈, start₂₅₆}
+use Rattle.standard.specs.Integrity.{IV-EIA3, isWidth}
+use Rattle.keystream.specs.Starts.{StartOutcome, require, rowOf, startTag₂₅₆, start₁₂₈, start₂₅₆}
 use Rattle.registers.specs.Stored.{Stored, Width, packed, taggingOf, zeroStored}
 use Rattle.registers.specs.Tagging.{Tagging, begun-EIA3, begun-ZUC256, updated}
 use Rattle.registers.proofs.Cutting.{updated-append}

@@ -7,9 +7,9 @@ use lib.Dec.{eqb, leb}
 use lib.ListN.{length}
 use Rattle.standard.specs.Notation.{if_then_else_}
 use Rattle.standard.specs.Generator.{Cells, keystream}
-use Rattle.standard.specs.Integrity.{IV-EIA3, tag-EIA3, tag-ZUC256}
+use Rattle.standard.specs.Integrity.{IV-EIA3, tag-EIA3, tag-ZUC256, isWidth}
 use Rattle.standard.specs.Loading.{load₁₂₈, load₂₅₆}
-use Rattle.keystream.specs.Starts.{StartOutcome, isWidth, rowOf, startNumber, startTag₂₅₆, start₁₂₈}
+use Rattle.keystream.specs.Starts.{StartOutcome, rowOf, startNumber, startTag₂₅₆, start₁₂₈}
 use Rattle.registers.specs.Stored.{Stored, formed, packed, storedOf, tagWords, taggingOf, zeroStored}
 use Rattle.registers.specs.Tagging.{begun-EIA3, begun-ZUC256, closed-EIA3, closed-ZUC256, updated}
 use Rattle.mac.specs.declared.Finish128.{Finish128}

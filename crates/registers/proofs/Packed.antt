@@ -1,7 +1,7 @@
 -- A well-formed struct holds exactly the packing of what is read from it; packings of good states read back and are well formed;
 -- starts, bytes and updates keep states good.
 use mathlib.Core.Path.{_≡_, refl, sym, ap, ap₂, _∙_, subst}
-use mathlib.Core.Bool.{Bool, true, false, _&&_}
+use mathlib.Core.Bool.{Bool, true, false, _&&_, _||_}
 use mathlib.Core.List.{List, [], _∷_, _++_}
 use mathlib.Core.Logic.{_⊎_, inl, inr, ⊎-elim}
 use Prim.Native.Nat.{ℕ, zero, suc, _+_, _-_, _*_, _/_, _%_, _^_, _<_, _≤_}
@@ -15,16 +15,15 @@ use lib.Seq.{drop-at, drop-cons, length-take-le, take-at}
 use lib.Bits.{xor-lt}
 use lib.Pow.{split}
 use borrow.Author.Tests.{eq-eqb, eqb-true, lt-ltb, ltb-true, ne-eqb}
-use Rattle.standard.specs.Notation.{if_then_else_}
 use Rattle.standard.specs.Bits.{M, bitOf, z}
 use Rattle.standard.specs.Generator.{State, _⟨_⟩, wellFormed, wordAt}
-use Rattle.standard.specs.Integrity.{T}
+use Rattle.standard.specs.Integrity.{T, isWidth}
 use Rattle.standard.proofs.Cells.{cells-wellFormed, wellFormed-cells}
 use Rattle.standard.proofs.Generator.{Sound, sound-after}
 use Rattle.standard.proofs.Sum.{sum-lt}
 use Rattle.standard.proofs.Window.{bitOf-lt, window-lt}
 use Rattle.registers.specs.Tagging.{Tagging, absorbed, begun-EIA3, begun-ZUC256, fed, updated}
-use Rattle.registers.specs.Stored.{Good, Held, Stored, Width, allZero, formed, isWidth, keyOf, keyWords, packed, tagOf, tagWords, taggingOf, unused}
+use Rattle.registers.specs.Stored.{Good, Held, Stored, Width, allZero, formed, keyOf, keyWords, packed, tagOf, tagWords, taggingOf, unused}
 use Rattle.registers.proofs.Message.{z-lt}
 use Rattle.registers.proofs.Cutting.{absorbed-fills, absorbed-waits}
 use Rattle.registers.proofs.Widths.{tag-words-16, words-16, words-8}
@@ -55,23 +54,21 @@ width-most h = ⊎-elim (λ e. omega arith) (λ o. ⊎-elim (λ e. omega arith) 
 pub width-whole : {w : ℕ} → Width w → (w * 8 % 32 ≡ 0) × (0 < w * 8)
 width-whole h = ⊎-elim (λ e. (rw e refl, omega arith)) (λ o. ⊎-elim (λ e. (rw e refl, omega arith)) (λ e. (rw e refl, omega arith)) o) h
 
-or-else : (a b : Bool) → (if a then true else b) ≡ true → (a ≡ true) ⊎ (b ≡ true)
-or-else true b e = inl refl
-or-else false b e = inr e
+or-cases : (a b : Bool) → a || b ≡ true → (a ≡ true) ⊎ (b ≡ true)
+or-cases true b e = inl refl
+or-cases false b e = inr e
 
-width-is : (w : ℕ) → isWidth w ≡ true → Width w
-unfolding isWidth
-width-is w e =
-    ⊎-elim (λ f. inl (eqb-true w 4 f))
-    (λ r. ⊎-elim (λ f. inr (inl (eqb-true w 8 f))) (λ f. inr (inr (eqb-true w 16 f))) (or-else (eqb w 8) (eqb w 16) r))
-    (or-else (eqb w 4) (if eqb w 8 then true else eqb w 16) e)
+pub width-is : (w : ℕ) → isWidth w ≡ true → Width w
+width-is w t =
+    ⊎-elim
+    (λ u. ⊎-elim (λ f. inl (eqb-true w 4 f)) (λ f. inr (inl (eqb-true w 8 f))) (or-cases (eqb w 4) (eqb w 8) u))
+    (λ f. inr (inr (eqb-true w 16 f)))
+    (or-cases (eqb w 4 || eqb w 8) (eqb w 16) t)
 
 pub is-width : {w : ℕ} → Width w → isWidth w ≡ true
-unfolding isWidth
 is-width h = ⊎-elim (λ e. rw e refl) (λ o. ⊎-elim (λ e. rw e refl) (λ e. rw e refl) o) h
 
 pub no-width : (w : ℕ) → (Width w → ⊥) → isWidth w ≡ false
-unfolding isWidth
 no-width w h = rw (ne-eqb w 4 (λ e. h (inl e)), ne-eqb w 8 (λ e. h (inr (inl e))), ne-eqb w 16 (λ e. h (inr (inr e)))) refl
 
 -- zeros

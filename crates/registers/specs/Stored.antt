@@ -9,6 +9,7 @@ use lib.ListN.{drop, length, replicate, take}
 use Rattle.standard.specs.Notation.{if_then_else_}
 use Rattle.standard.specs.Bits.{window, z}
 use Rattle.standard.specs.Generator.{Cells, State, _⟨_⟩, after, wellFormed, wordAt, zeros}
+use Rattle.standard.specs.Integrity.{isWidth}
 use Rattle.zuc.specs.Reading.{stateOf}
 use Rattle.registers.specs.Tagging.{Tagging}
 use Rattle.registers.specs.declared.Fresh.{Fresh}
@@ -86,9 +87,6 @@ unused width k t =
     if eqb width 4 then k ⟨ 1 ⟩ ∷ k ⟨ 2 ⟩ ∷ k ⟨ 3 ⟩ ∷ t ⟨ 0 ⟩ / 2 ^ 32 ∷ t ⟨ 1 ⟩ ∷ []
     else if eqb width 8 then k ⟨ 2 ⟩ ∷ k ⟨ 3 ⟩ ∷ t ⟨ 1 ⟩ ∷ []
     else []
-
-unfoldable pub isWidth : ℕ → Bool
-isWidth width = if eqb width 4 then true else if eqb width 8 then true else eqb width 16
 
 unfoldable pub allZero : List ℕ → Bool
 allZero [] = true

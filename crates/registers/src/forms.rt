@@ -3,7 +3,8 @@ ghost use lib.ListN.{drop};
 ghost use mathlib.Core.Bool.{true};
 ghost use mathlib.Core.Path.{_≡_};
 ghost use Prim.Native.Nat.{};
-ghost use Rattle.registers.specs.Stored.{Held, allZero, formed, isWidth, storedOf, unused, zeroStored};
+ghost use Rattle.standard.specs.Integrity.{isWidth};
+ghost use Rattle.registers.specs.Stored.{Held, allZero, formed, storedOf, unused, zeroStored};
 use zuc::Zuc;
 
 fn is_width(width: usize) -> bool

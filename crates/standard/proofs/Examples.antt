@@ -11,7 +11,7 @@ use Rattle.standard.specs.Generator.{v, s₁₆, X₀, X₁, X₂, S, L�
 use Rattle.standard.specs.Loading.{IV₂₅₆}
 use Rattle.standard.specs.Confidentiality.{byteOf, IV-EEA3, masked, keepHigh, keptByCrate, keptByClean, eachFrom, maskedBuffer}
 use Rattle.standard.specs.Integrity.{IV-EIA3, T, tag-EIA3, tag-ZUC256}
-use Rattle.standard.specs.Examples.{Example, bytes, examples, given, number, required}
+use Rattle.standard.specs.Examples.{bytes, examples, given, number, required}
 
 pub examples-hold : given examples ≡ required examples
 unfolding _⋘_ bitOf bitAt M z window S₀-table S₁-table S₀ S₁ v s₁₆ X₀ X₁ X₂ S L₁ L₂ W W₁ W₂ F IV₂₅₆ byteOf IV-EEA3 masked keepHigh keptByCrate keptByClean eachFrom maskedBuffer IV-EIA3 T tag-EIA3 tag-ZUC256 examples given required

@@ -1,11 +1,11 @@
 -- Laws of windows: in two parts, by its bits, of a number, of whole cells; by induction on the width.
 use mathlib.Core.Path.{_≡_, refl, sym, ap, ap₂, _∙_, subst}
 use Prim.Native.Nat.{ℕ, zero, suc, _+_, _-_, _*_, _/_, _%_, _^_, _<_, _≤_}
-use native.Mathlib.Nat.{add-zero, zero-add, add-suc, suc-add, add-assoc, mul-one, mul-assoc, mul-comm, pow-suc, mod-lt, mod-one, div-one, mod-eq-of-lt, lt-of-lt-of-le, add-mul}
+use native.Mathlib.Nat.{add-zero, zero-add, add-suc, add-assoc, mul-one, mul-assoc, pow-suc, mod-lt, mod-one, div-one, mod-eq-of-lt, add-mul}
 use native.Mathlib.Numerals.{add-one}
 use native.Mathlib.Omega.{arith}
 use lib.Arith.{digits-lt, digits-div, digits-mod}
-use lib.Pow.{pow-pos, high, low, shr-shr, mod-pow-add}
+use lib.Pow.{high, shr-shr, mod-pow-add}
 use Rattle.standard.specs.Bits.{bitOf, bitAt, window}
 
 pub bitOf-lt : (n x i : ℕ) → bitOf n x i < 2

@@ -1,6 +1,6 @@
 -- The worked examples P1..P11 of document 01, each case of each: what a definition gives, and what it must be. A number is a list of one.
 use mathlib.Core.List.{List, [], _∷_, _++_}
-use Prim.Native.Nat.{ℕ, _+_, _*_}
+use Prim.Native.Nat.{ℕ, _+_}
 use lib.ListN.{getD, replicate}
 use Rattle.standard.specs.Generator.{State, s₁₆, S, L₁, L₂, W, F}
 use Rattle.standard.specs.Loading.{IV₂₅₆}

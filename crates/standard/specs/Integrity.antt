@@ -1,6 +1,8 @@
 -- 128-EIA3 (Document 1) and the ZUC-256 tags (version 1.1); the tag rules over the width t in bits.
+use mathlib.Core.Bool.{Bool, _||_}
 use mathlib.Core.List.{List, [], _∷_}
 use Prim.Native.Nat.{ℕ, zero, suc, _+_, _-_, _*_, _/_, _%_, _^_}
+use lib.Dec.{eqb}
 use Rattle.standard.specs.Notation.{_⊕_, ceil}
 use Rattle.standard.specs.Bits.{M, z, window}
 use Rattle.standard.specs.Confidentiality.{byteOf}
@@ -32,6 +34,10 @@ T t bits o m (suc l) = T t bits o m l ⊕ whereSet (m l) (window bits (o + l) t)
 unfoldable pub tag-EIA3 : (ℕ → ℕ) → List ℕ → ℕ → ℕ
 tag-EIA3 words message LENGTH =
     T 32 (z words) 0 (M message) LENGTH ⊕ window (z words) LENGTH 32 ⊕ window (z words) (32 * (ceil (LENGTH + 64) 32 - 1)) 32
+
+-- ZUC-256 tags have 32, 64 or 128 bits; document 01 gives their width in bytes
+abbrev pub isWidth : ℕ → Bool
+isWidth width = eqb width 4 || eqb width 8 || eqb width 16
 
 -- ZUC-256, t bits: Tag = (z_0, .., z_(t-1)); Tag = Tag ⊕ W_i at the set bits, W_i = (z_(t+i), .., z_(2t+i-1)); Tag = Tag ⊕ W_l
 unfoldable pub tag-ZUC256 : ℕ → (ℕ → ℕ) → List ℕ → ℕ → ℕ

@@ -1,6 +1,5 @@
 -- `iv` is EEA3's IV, byte by byte.
 use mathlib.Core.List.{[], _∷_}
-use mathlib.Core.Path.{_≡_}
 use Prim.Native.Nat.{_%_, _*_, _+_}
 use Rattle.standard.specs.Confidentiality.{IV-EEA3}
 use borrow.Author.Needs.{needs}

@@ -2,7 +2,7 @@
 use borrow.Author.Tests.{eq-eqb, ne-eqb}
 use denote.Ref.{now}
 use lib.ListN.{length}
-use mathlib.Core.Path.{_∙_, ap, refl, sym}
+use mathlib.Core.Path.{_∙_, ap, refl}
 use Rattle.keystream.specs.Starts.{begun, start₁₂₈}
 use Rattle.standard.specs.Loading.{D}
 use borrow.Author.Needs.{needs}

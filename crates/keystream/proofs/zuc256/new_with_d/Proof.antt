@@ -1,6 +1,5 @@
 -- `new_with_d` is the ZUC-256 start with the row of the width, which the match picks; every other width is refused.
 use borrow.Author.Tests.{ne-eqb}
-use denote.Ref.{now}
 use mathlib.Core.List.{List}
 use mathlib.Core.Path.{_≡_, _∙_, ap, sym}
 use Prim.Native.Nat.{ℕ}

@@ -1,6 +1,5 @@
 -- `cut128` stays inside the message: a part ends at or before its whole bytes, and each turn leaves fewer.
 use lib.ListN.{length}
-use native.Mathlib.Omega.{arith}
 use Prim.Native.Nat.{_-_, _/_, _≤_}
 use borrow.Author.Needs.{needs}
 use Rattle.vectors.proofs.tags.cut128.Statement.{statement}

@@ -1,7 +1,4 @@
 -- `sbox` is S: each byte through its box, the lent tables being the standard's.
-use lib.ListN.{getD}
-use mathlib.Core.Path.{_≡_, _∙_, ap}
-use Prim.Native.Nat.{ℕ}
 use Rattle.standard.specs.Boxes.{S₀, S₁}
 use Rattle.standard.specs.Generator.{S}
 use borrow.Author.Needs.{needs}
