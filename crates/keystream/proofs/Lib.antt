@@ -1,4 +1,5 @@
 pub mod Behind
 pub mod Rows
+pub mod Loaded
 pub mod Sextets
 pub mod Tight

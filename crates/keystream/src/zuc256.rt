@@ -3,9 +3,9 @@ ghost use lib.ListN.{drop, length, take};
 ghost use mathlib.Core.List.{[], _∷_};
 ghost use mathlib.Core.Path.{_≡_};
 ghost use Rattle.keystream.specs.Starts.{startTold, start₂₅₆, startTag₂₅₆};
-ghost use Rattle.keystream.specs.Rows.{Concat, Fit, Inside, Joined, Row, besides, sextets, sextetsOf};
-ghost use Rattle.standard.specs.Generator.{Cells};
+ghost use Rattle.keystream.specs.Rows.{Inside, Row, besides, joined, sextets, sextetsOf};
 ghost use Rattle.standard.specs.Loading.{d-keystream, load₂₅₆};
+ghost use Rattle.standard.specs.Notation.{_‖₇_, _‖₈_};
 ghost use Rattle.zuc.specs.Reading.{stateOf};
 use super::Start;
 use super::StartAnswer;
@@ -140,7 +140,7 @@ fn split(x: u8, y: u8, z: u8) -> Sextets
 
 // A loaded cell, of 8, 7, 8 and 8 bits.
 fn concat_bits(a: u8, b: u8, c: u8, d: u8) -> u32
-    ensures { λ r. ⌜ Concat a b c d r ⌝ }
+    ensures { λ r. ⌜ r ≡ a ‖₇ b ‖₈ c ‖₈ d ⌝ }
 {
     ((a as u32) << 23) + ((b as u32) << 16) + ((c as u32) << 8) + (d as u32)
 }
@@ -174,8 +174,8 @@ fn beside(x: [u8; 55]) -> [u8; 16]
 
 // The cells: constants d with bits b beside them, each between the bytes of x at its places.
 fn join(places: [Places; 16], d: [u8; 16], b: [u8; 16], x: [u8; 55]) -> [u32; 16]
-    requires { ⌜ Inside places × Row 7 d × Fit 7 b ⌝ }
-    ensures { λ r. ⌜ Joined places d b x r ⌝ }
+    requires { ⌜ Inside places ⌝ }
+    ensures { λ r. ⌜ r ≡ joined places d b x ⌝ }
 {
     let mut s = [0u32; 16];
     for i in 0usize..16 {
@@ -190,8 +190,7 @@ fn join(places: [Places; 16], d: [u8; 16], b: [u8; 16], x: [u8; 55]) -> [u32; 16
 
 // The loaded cells of a key and the IV behind it.
 fn load(d: [u8; 16], x: [u8; 55]) -> Zuc
-    requires { ⌜ Row 7 d ⌝ }
-    ensures { λ r. ⌜ (stateOf r ≡ load₂₅₆ d (take 32 x) (drop 32 x)) × Cells (stateOf r .cells) ⌝ }
+    ensures { λ r. ⌜ stateOf r ≡ load₂₅₆ d (take 32 x) (drop 32 x) ⌝ }
 {
     let b = beside(x);
     let s = join(PLACES, d, b, x);

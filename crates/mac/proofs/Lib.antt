@@ -1,4 +1,4 @@
-pub mod Loaded
+pub mod Accepted
 pub mod Outcomes
 pub mod Runs
 pub mod Theorems

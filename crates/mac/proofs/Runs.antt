@@ -17,7 +17,7 @@ use Rattle.registers.specs.Tagging.{Tagging, begun-EIA3, begun-ZUC256, updated}
 use Rattle.registers.proofs.Cutting.{updated-append}
 use Rattle.registers.proofs.Packed.{read-back}
 use Rattle.mac.specs.Calls.{Closing, Outcome, begun-128, begun-256, closing, ifStarted, refusedStart, startOutcome-128, startOutcome-256, startOutcome-EIA3, updateOutcome}
-use Rattle.mac.proofs.Loaded.{accepted-width}
+use Rattle.mac.proofs.Accepted.{accepted-width}
 use Rattle.mac.specs.Runs.{Updates, joined, more, none}
 
 -- an accepted update and an accepted closing, told by their definitions

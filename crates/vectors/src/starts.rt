@@ -181,14 +181,14 @@ fn refused_starts() {
     zuc128(b"key 16, IV 17", 3, 16, 17);
     zuc128(b"key 16, IV 16", 0, 16, 16);
     zuc256(b"ZUC-256 IV 22", 3, 32, 22);
-    zuc256(b"ZUC-256 key 33, IV 22", 2, 33, 22);
+    zuc256(b"ZUC-256 key 33, IV 32", 2, 33, 32);
     let k = [0u8; 15];
     refused(b"EEA3 key 15", 2, keystream::eea3::new(1, 2, 0, &k));
 }
 
 fn refused_tag_starts() {
     tag256(b"width 5, key 33, IV 22", 1, 5, 33, 22);
-    tag256(b"width 4, key 33, IV 22", 2, 4, 33, 22);
+    tag256(b"width 4, key 33, IV 32", 2, 4, 33, 32);
     tag256(b"width 8, key 32, IV 24", 3, 8, 32, 24);
     tag256(b"width 16, key 32, IV 23", 0, 16, 32, 23);
 }

@@ -1,4 +1,4 @@
--- `load` fills the cells: after i turns the first i are loaded and in range.
+-- `load` fills the cells: after i turns the first i are loaded.
 use borrow.Author.Count.{below-none}
 use denote.Ref.{now}
 use lib.ListN.{getD, length, length-set}
@@ -7,7 +7,6 @@ use mathlib.Core.Path.{_≡_, _∙_, ap, refl, subst, sym}
 use native.Mathlib.Omega.{arith}
 use Prim.Native.Nat.{ℕ, _-_, _<_, _^_, _≤_}
 use Rattle.keystream.proofs.Rows.{D-row}
-use Rattle.standard.proofs.Cells.{InRange}
 use Rattle.standard.proofs.Listed.{is-listed, stored}
 use Rattle.standard.specs.Loading.{D, load₁₂₈}
 use Rattle.standard.specs.Notation.{_‖₁₅_, _‖₈_}
@@ -18,11 +17,8 @@ use Rattle.keystream.proofs.zuc128.load.Tie as tie
 abbrev loaded : List ℕ → List ℕ → ℕ → ℕ
 loaded key iv k = getD key k 0 ‖₁₅ getD D k 0 ‖₈ getD iv k 0
 
-abbrev Is : List ℕ → List ℕ → ℕ → ℕ → Type 0
-Is key iv k x = (x ≡ loaded key iv k) × InRange x
-
 abbrev Inv-loop : tie.InvT-loop
-Inv-loop d key iv s₀ i₀ s i = (i ≤ 16) × (length s ≡ 16) × ((k : ℕ) → k < i → Is key iv k (getD s k 0))
+Inv-loop d key iv s₀ i₀ s i = (i ≤ 16) × (length s ≡ 16) × ((k : ℕ) → k < i → getD s k 0 ≡ loaded key iv k)
 
 abbrev μ-loop : tie.MeasureT-loop
 μ-loop d key iv s₀ i₀ s i = 16 - i
@@ -34,7 +30,7 @@ cell-requires : tie.Need-cell-requires Inv-loop μ-loop
 cell-requires c κs =
     let i = c .before .before .before .before .loop .i in
     let start = c .before .before .before .before .before .before .before in
-    (subst (λ (d : List ℕ). 0 < getD d i 0) (sym (start .pre .0)) (D-row .some i (omega arith)), subst (λ (d : List ℕ). getD d i 0 < 2 ^ 15) (sym (start .pre .0)) (D-row .fits i (omega arith)))
+    subst (λ (d : List ℕ). getD d i 0 < 2 ^ 15) (sym (start .pre .0)) (D-row .fits i (omega arith))
 
 loop-again : tie.Need-loop-again Inv-loop μ-loop
 loop-again c =
@@ -43,10 +39,10 @@ loop-again c =
     let key = now (start .args .key) in
     let iv = now (start .args .iv) in
     let new = c .cell .result in
-    let is : new ≡ loaded key iv (l .i) = c .cell .ensures .0 ∙ ap (λ (d : List ℕ). getD key (l .i) 0 ‖₁₅ getD d (l .i) 0 ‖₈ getD iv (l .i) 0) (start .pre .0) in (
+    let is : new ≡ loaded key iv (l .i) = c .cell .ensures ∙ ap (λ (d : List ℕ). getD key (l .i) 0 ‖₁₅ getD d (l .i) 0 ‖₈ getD iv (l .i) 0) (start .pre .0) in (
       omega arith,
       length-set (l .s) (l .i) new ∙ l .inv .1,
-      stored (Is key iv) (l .s) (l .i) new (omega arith) (is, (c .cell .ensures .1, c .cell .ensures .2)) (l .inv .2),
+      stored (λ k x. x ≡ loaded key iv k) (l .s) (l .i) new (omega arith) is (l .inv .2),
     )
 
 returns : tie.Need-returns Inv-loop μ-loop
@@ -54,10 +50,7 @@ unfolding load₁₂₈
 returns c =
     let l = c .before .loop in
     let a = c .before .before .before .before .args in
-    let all : (k : ℕ) → k < 16 → Is (now (a .key)) (now (a .iv)) k (getD (l .s) k 0) = λ k h. l .inv .2 k (omega arith) in (
-      λ j. record { cells = is-listed (loaded (now (a .key)) (now (a .iv))) (l .s) 16 (l .inv .1) (λ k h. all k h .0) j; R₁ = 0; R₂ = 0 },
-      record { full = l .inv .1; low = λ k h. all k h .1 .0; high = λ k h. all k h .1 .1 },
-    )
+    λ j. record { cells = is-listed (loaded (now (a .key)) (now (a .iv))) (l .s) 16 (l .inv .1) (λ k h. l .inv .2 k (omega arith)) j; R₁ = 0; R₂ = 0 }
 
 pub load-spec : {M : Type 1} → statement M
 load-spec =

@@ -2,8 +2,11 @@
 use borrow.Author.Tests.{eq-eqb, ne-eqb}
 use denote.Ref.{now}
 use lib.ListN.{length}
-use mathlib.Core.Path.{_∙_, ap, refl}
+use mathlib.Core.Path.{_∙_, ap, refl, subst, sym}
+use native.Mathlib.Omega.{arith}
+use Rattle.keystream.proofs.Loaded.{cells-128}
 use Rattle.keystream.specs.Starts.{begun, start₁₂₈}
+use Rattle.standard.specs.Generator.{Cells, State}
 use Rattle.standard.specs.Loading.{D}
 use borrow.Author.Needs.{needs}
 use Rattle.keystream.proofs.zuc128.new.Statement.{statement}
@@ -26,15 +29,23 @@ load-requires : tie.Need-load-requires
 unfolding D
 load-requires c κs = (refl, (c .before .before .if1 .left, c .before .if2 .left))
 
+started-from-requires : tie.Need-started-from-requires
+started-from-requires c κs =
+    let v = c .before .before .before .before in
+    let k = v .before in
+    let a = k .before .args in
+    subst (λ (σ : State). Cells (σ .cells)) (sym (c .load .ensures))
+    (cells-128 (now (a .key)) (now (a .iv)) (λ i. omega (arith, k .shared-slice-known .given i)) (λ i. omega (arith, v .shared-slice-known2 .given i)))
+
 returns-3 : tie.Need-returns-3
 unfolding start₁₂₈
 returns-3 c =
     let tested = c .before .before .before in
     let a = tested .before .before .before .before .args in
     rw (eq-eqb (length (now (a .key))) 16 (tested .before .if1 .left), eq-eqb (length (now (a .iv))) 16 (tested .if2 .left))
-    (c .started-from .ensures ∙ ap begun (c .before .load .ensures .0))
+    (c .started-from .ensures ∙ ap begun (c .before .load .ensures))
 
 pub new-spec : {M : Type 1} → statement M
 new-spec =
     tie.close
-    (tie.spec (λ c κs. search needs) returns (λ c κs. search needs) returns-2 load-requires (λ c κs. search needs) returns-3)
+    (tie.spec (λ c κs. search needs) returns (λ c κs. search needs) returns-2 load-requires started-from-requires returns-3)

@@ -9,7 +9,7 @@ use mir.Val.{Fits}
 use Rattle.standard.specs.Generator.{_⟨_⟩}
 use Rattle.keystream.specs.Starts.{start₁₂₈}
 use Rattle.mac.specs.Calls.{Ready, begun-128, startOutcome-EIA3}
-use Rattle.mac.proofs.Loaded.{ready-128}
+use Rattle.mac.proofs.Accepted.{ready-128}
 use Rattle.mac.proofs.eia3.new.Statement.{statement}
 use Rattle.mac.proofs.eia3.new.Tie as tie
 

@@ -4,7 +4,7 @@ use native.Mathlib.Omega.{arith}
 use borrow.Author.Needs.{needs}
 use denote.Ref.{now}
 use Rattle.mac.specs.Calls.{Ready, begun-128, startOutcome-128}
-use Rattle.mac.proofs.Loaded.{ready-128}
+use Rattle.mac.proofs.Accepted.{ready-128}
 use Rattle.mac.proofs.zuc128.new.Statement.{statement}
 use Rattle.mac.proofs.zuc128.new.Tie as tie
 

@@ -15,7 +15,7 @@ use Rattle.registers.specs.Stored.{Width, tagWords}
 use Rattle.registers.specs.Tagging.{closed-ZUC256}
 use Rattle.registers.proofs.Packed.{at-packed, good-ZUC256, held-as}
 use Rattle.mac.specs.Calls.{Ready, once-from-256, onceOutcome-256}
-use Rattle.mac.proofs.Loaded.{accepted-width, ready-256}
+use Rattle.mac.proofs.Accepted.{accepted-width, ready-256}
 use Rattle.mac.proofs.Outcomes.{once-256-is, spelled-tag}
 use Rattle.mac.proofs.zuc256.compute.Statement.{statement}
 use Rattle.mac.proofs.zuc256.compute.Tie as tie

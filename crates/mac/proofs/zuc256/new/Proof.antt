@@ -8,7 +8,7 @@ use Rattle.keystream.specs.declared.StartAnswer.{StartAnswer}
 use Rattle.keystream.specs.Starts.{StartOutcome, startNumber, startTag₂₅₆, startTold}
 use Rattle.registers.specs.Stored.{storedOf}
 use Rattle.mac.specs.Calls.{Ready, begun-256, startOutcome-256}
-use Rattle.mac.proofs.Loaded.{accepted-width, ready-256}
+use Rattle.mac.proofs.Accepted.{accepted-width, ready-256}
 use Rattle.mac.proofs.Outcomes.{refused-as, started-as}
 use Rattle.mac.proofs.zuc256.new.Statement.{statement}
 use Rattle.mac.proofs.zuc256.new.Tie as tie
