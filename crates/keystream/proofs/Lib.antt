@@ -1,5 +1,1 @@
-pub mod Behind
-pub mod Rows
-pub mod Loaded
-pub mod Sextets
 pub mod Tight

@@ -1,3 +1,2 @@
 pub mod Starts
 pub mod Draws
-pub mod Rows

@@ -8,10 +8,13 @@ use lib.Dec.{eqb}
 use lib.ListN.{length}
 use Rattle.standard.specs.Generator.{started}
 use Rattle.standard.specs.Integrity.{isWidth}
-use Rattle.standard.specs.Loading.{load₁₂₈, load₂₅₆}
+use Rattle.standard.specs.Loading.{d-tag₁₂₈, d-tag₃₂, d-tag₆₄, load₁₂₈, load₂₅₆}
+use Rattle.standard.specs.Notation.{if_then_else_}
 use Rattle.standard.proofs.Generator.{sound-started}
 use Rattle.keystream.specs.Starts.{StartOutcome, require, rowOf, startTag₂₅₆, start₁₂₈, start₂₅₆}
-use Rattle.keystream.proofs.Loaded.{Bytes, cells-128, cells-256, row-of}
+use Rattle.loading.specs.Rows.{Row}
+use Rattle.loading.proofs.Loaded.{Bytes, cells-128, cells-256}
+use Rattle.loading.proofs.Rows.{d-tag₁₂₈-row, d-tag₃₂-row, d-tag₆₄-row}
 use Rattle.registers.proofs.Packed.{width-is}
 use Rattle.registers.specs.Stored.{Width}
 use Rattle.mac.specs.Calls.{Ready}
@@ -25,6 +28,14 @@ unfolding start₁₂₈
 ready-128 k iv hk hv =
     ready-require (eqb (length k) 16) 1 _
     (ready-require (eqb (length iv) 16) 2 (record { number = 0; state = started (load₁₂₈ k iv) }) (λ e. sound-started (load₁₂₈ k iv) (cells-128 k iv hk hv)))
+
+pub row-of : (width : ℕ) → Row 7 (rowOf width)
+row-of width = by (eqb width 4) (eqb width 8)
+  where
+    by : (a b : Bool) → Row 7 (if a then d-tag₃₂ else if b then d-tag₆₄ else d-tag₁₂₈)
+    by true b = d-tag₃₂-row
+    by false true = d-tag₆₄-row
+    by false false = d-tag₁₂₈-row
 
 pub ready-256 : (w : ℕ) (k iv : List ℕ) → Bytes k → Bytes iv → Ready (startTag₂₅₆ w k iv)
 unfolding startTag₂₅₆ start₂₅₆

@@ -17,7 +17,8 @@ use Rattle.registers.proofs.Packed.{and-both, good-EIA3, good-ZUC256, good-upda
 use Rattle.tagging.proofs.Rule.{drawn-EIA3, drawn-ZUC256, drawn-closing-EIA3, drawn-closing-ZUC256}
 use Rattle.mac.specs.Calls.{formed-128, updateOutcome}
 use Rattle.mac.specs.Runs.{Updates, joined}
-use Rattle.keystream.proofs.Loaded.{Bytes, cells-128, cells-256, row-of}
+use Rattle.loading.proofs.Loaded.{Bytes, cells-128, cells-256}
+use Rattle.mac.proofs.Accepted.{row-of}
 use Rattle.mac.proofs.Runs.{at-state, updates-are}
 
 -- ZUC-128 and EIA3: s is the state of an accepted start, last the state after accepted updates

@@ -2,12 +2,11 @@
 use borrow.Author.Tests.{eq-eqb, ne-eqb}
 use denote.Ref.{now}
 use lib.ListN.{length}
-use mathlib.Core.Path.{_∙_, ap, refl, subst, sym}
+use mathlib.Core.Path.{_∙_, ap, subst, sym}
 use native.Mathlib.Omega.{arith}
-use Rattle.keystream.proofs.Loaded.{cells-128}
+use Rattle.loading.proofs.Loaded.{cells-128}
 use Rattle.keystream.specs.Starts.{begun, start₁₂₈}
 use Rattle.standard.specs.Generator.{Cells, State}
-use Rattle.standard.specs.Loading.{D}
 use borrow.Author.Needs.{needs}
 use Rattle.keystream.proofs.zuc128.new.Statement.{statement}
 use Rattle.keystream.proofs.zuc128.new.Tie as tie
@@ -26,12 +25,11 @@ returns-2 c =
     (c .refused2 .ensures)
 
 load-requires : tie.Need-load-requires
-unfolding D
-load-requires c κs = (refl, (c .before .before .if1 .left, c .before .if2 .left))
+load-requires c κs = (c .before .if1 .left, c .if2 .left)
 
 started-from-requires : tie.Need-started-from-requires
 started-from-requires c κs =
-    let v = c .before .before .before .before in
+    let v = c .before .before .before in
     let k = v .before in
     let a = k .before .args in
     subst (λ (σ : State). Cells (σ .cells)) (sym (c .load .ensures))
@@ -40,7 +38,7 @@ started-from-requires c κs =
 returns-3 : tie.Need-returns-3
 unfolding start₁₂₈
 returns-3 c =
-    let tested = c .before .before .before in
+    let tested = c .before .before in
     let a = tested .before .before .before .before .args in
     rw (eq-eqb (length (now (a .key))) 16 (tested .before .if1 .left), eq-eqb (length (now (a .iv))) 16 (tested .if2 .left))
     (c .started-from .ensures ∙ ap begun (c .before .load .ensures))

@@ -8,8 +8,8 @@ use native.Mathlib.Omega.{arith}
 use Prim.Native.Nat.{ℕ, _-_, _<_, _≤_}
 use Rattle.standard.proofs.Listed.{stored}
 use borrow.Author.Needs.{needs}
-use Rattle.keystream.proofs.zuc256.copy.Statement.{statement}
-use Rattle.keystream.proofs.zuc256.copy.Tie as tie
+use Rattle.loading.proofs.zuc256.copy.Statement.{statement}
+use Rattle.loading.proofs.zuc256.copy.Tie as tie
 
 abbrev Inv-loop : tie.InvT-loop
 Inv-loop to₀ from i₀ i-end to i =

@@ -1,8 +1,8 @@
 -- `concat_bits` joins its parts: no shift loses a bit; linear arithmetic.
 use native.Mathlib.Omega.{arith}
 use borrow.Author.Needs.{needs}
-use Rattle.keystream.proofs.zuc256.concat_bits.Statement.{statement}
-use Rattle.keystream.proofs.zuc256.concat_bits.Tie as tie
+use Rattle.loading.proofs.zuc256.concat_bits.Statement.{statement}
+use Rattle.loading.proofs.zuc256.concat_bits.Tie as tie
 
 returns : tie.Need-returns
 returns c = omega arith

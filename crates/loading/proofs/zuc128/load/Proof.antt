@@ -3,46 +3,42 @@ use borrow.Author.Count.{below-none}
 use denote.Ref.{now}
 use lib.ListN.{getD, length, length-set}
 use mathlib.Core.List.{List}
-use mathlib.Core.Path.{_≡_, _∙_, ap, refl, subst, sym}
+use mathlib.Core.Path.{_≡_, _∙_, refl}
 use native.Mathlib.Omega.{arith}
-use Prim.Native.Nat.{ℕ, _-_, _<_, _^_, _≤_}
-use Rattle.keystream.proofs.Rows.{D-row}
+use Prim.Native.Nat.{ℕ, _-_, _<_, _≤_}
+use Rattle.loading.proofs.Rows.{D-row}
 use Rattle.standard.proofs.Listed.{is-listed, stored}
 use Rattle.standard.specs.Loading.{D, load₁₂₈}
 use Rattle.standard.specs.Notation.{_‖₁₅_, _‖₈_}
 use borrow.Author.Needs.{needs}
-use Rattle.keystream.proofs.zuc128.load.Statement.{statement}
-use Rattle.keystream.proofs.zuc128.load.Tie as tie
+use Rattle.loading.proofs.zuc128.load.Statement.{statement}
+use Rattle.loading.proofs.zuc128.load.Tie as tie
 
 abbrev loaded : List ℕ → List ℕ → ℕ → ℕ
 loaded key iv k = getD key k 0 ‖₁₅ getD D k 0 ‖₈ getD iv k 0
 
 abbrev Inv-loop : tie.InvT-loop
-Inv-loop d key iv s₀ i₀ s i = (i ≤ 16) × (length s ≡ 16) × ((k : ℕ) → k < i → getD s k 0 ≡ loaded key iv k)
+Inv-loop key iv d s₀ i₀ s i = (i ≤ 16) × (length s ≡ 16) × ((k : ℕ) → k < i → getD s k 0 ≡ loaded key iv k)
 
 abbrev μ-loop : tie.MeasureT-loop
-μ-loop d key iv s₀ i₀ s i = 16 - i
+μ-loop key iv d s₀ i₀ s i = 16 - i
 
 loop-holds : tie.Need-loop-holds Inv-loop μ-loop
 loop-holds c = (omega arith, refl, below-none (λ k. _))
 
 cell-requires : tie.Need-cell-requires Inv-loop μ-loop
-cell-requires c κs =
-    let i = c .before .before .before .before .loop .i in
-    let start = c .before .before .before .before .before .before .before in
-    subst (λ (d : List ℕ). getD d i 0 < 2 ^ 15) (sym (start .pre .0)) (D-row .fits i (omega arith))
+unfolding D
+cell-requires c κs = D-row .fits (c .before .before .before .loop .i) (omega arith)
 
 loop-again : tie.Need-loop-again Inv-loop μ-loop
+unfolding D
 loop-again c =
-    let l = c .before .before .before .before .before .loop in
-    let start = c .before .before .before .before .before .before .before .before in
-    let key = now (start .args .key) in
-    let iv = now (start .args .iv) in
-    let new = c .cell .result in
-    let is : new ≡ loaded key iv (l .i) = c .cell .ensures ∙ ap (λ (d : List ℕ). getD key (l .i) 0 ‖₁₅ getD d (l .i) 0 ‖₈ getD iv (l .i) 0) (start .pre .0) in (
+    let l = c .before .before .before .before .loop in
+    let a = c .before .before .before .before .before .before .before .args in
+    let new = c .cell .result in (
       omega arith,
       length-set (l .s) (l .i) new ∙ l .inv .1,
-      stored (λ k x. x ≡ loaded key iv k) (l .s) (l .i) new (omega arith) is (l .inv .2),
+      stored (λ k x. x ≡ loaded (now (a .key)) (now (a .iv)) k) (l .s) (l .i) new (omega arith) (c .cell .ensures) (l .inv .2),
     )
 
 returns : tie.Need-returns Inv-loop μ-loop

@@ -1,25 +1,23 @@
 -- Cells loaded from bytes are in range: each has a constant that is not zero, and fits in 31 bits; linear arithmetic, cell by cell.
 use borrow.Author.Tests.{le-ltb, lt-ltb}
 use lib.Bits.{or-lt}
-use lib.Dec.{eqb, lit<, lit≤}
+use lib.Dec.{lit<, lit≤}
 use lib.ListN.{getD}
-use mathlib.Core.Bool.{Bool, true, false}
 use mathlib.Core.List.{List}
 use mathlib.Core.Path.{_≡_, _∙_, ap, refl, subst, sym}
 use native.Mathlib.Nat.{zero-add}
 use native.Mathlib.Omega.{arith}
 use Prim.Native.Nat.{ℕ, _%_, _*_, _+_, _-_, _/_, _<_, _^_, _≤_}
-use Rattle.keystream.proofs.Rows.{D-row, d-tag₁₂₈-row, d-tag₃₂-row, d-tag₆₄-row, or-some}
-use Rattle.keystream.specs.Rows.{Row}
-use Rattle.keystream.specs.Starts.{rowOf}
+use Rattle.loading.proofs.Rows.{D-row, or-some}
+use Rattle.loading.specs.Rows.{Row}
 use Rattle.standard.proofs.Cells.{InRange, all-cells}
 use Rattle.standard.proofs.Linear.{M-lt}
 use Rattle.standard.proofs.Listed.{getD-listed, length-listed}
 use Rattle.standard.proofs.Window.{window-lt}
 use Rattle.standard.specs.Bits.{M}
 use Rattle.standard.specs.Generator.{Cells, _⟨_⟩}
-use Rattle.standard.specs.Loading.{D, IV₂₅₆, _∣_, cells₂₅₆, d-tag₁₂₈, d-tag₃₂, d-tag₆₄, listed, load₁₂₈, load₂₅₆}
-use Rattle.standard.specs.Notation.{if_then_else_, _‖₁₅_, _‖₇_, _‖₈_}
+use Rattle.standard.specs.Loading.{D, IV₂₅₆, _∣_, cells₂₅₆, listed, load₁₂₈, load₂₅₆}
+use Rattle.standard.specs.Notation.{_‖₁₅_, _‖₇_, _‖₈_}
 
 infixr 40 _&_
 abbrev pub Bytes : List ℕ → Type 0
@@ -104,11 +102,3 @@ module _ (row k iv : List ℕ) (rule : Row 7 row) (hk : Bytes k) (hv : Bytes iv)
       & beside 15 (lit< tt) low-half (hk 15) (hk 30) (hk 29)
       & tt
       )
-
-pub row-of : (width : ℕ) → Row 7 (rowOf width)
-row-of width = by (eqb width 4) (eqb width 8)
-  where
-    by : (a b : Bool) → Row 7 (if a then d-tag₃₂ else if b then d-tag₆₄ else d-tag₁₂₈)
-    by true b = d-tag₃₂-row
-    by false true = d-tag₆₄-row
-    by false false = d-tag₁₂₈-row

@@ -5,7 +5,7 @@ use mathlib.Core.List.{List, [], _∷_}
 use mathlib.Core.Path.{_≡_, _∙_, ap₂, refl}
 use native.Mathlib.Omega.{arith}
 use Prim.Native.Nat.{ℕ, _%_, _*_, _+_, _/_, _<_, _^_}
-use Rattle.keystream.specs.Rows.{sextets}
+use Rattle.loading.specs.Rows.{sextets}
 use Rattle.standard.proofs.Window.{window-bitOf, window-split}
 use Rattle.standard.specs.Bits.{M, bitAt, bitOf, window}
 use Rattle.standard.specs.Loading.{IV₂₅₆, listed}

@@ -1,9 +1,9 @@
 -- `split` gives the four windows of 6 bits, by the law of shifts and remainders.
 use mathlib.Core.Path.{sym}
-use Rattle.keystream.proofs.Sextets.{by-shifts}
+use Rattle.loading.proofs.Sextets.{by-shifts}
 use borrow.Author.Needs.{needs}
-use Rattle.keystream.proofs.zuc256.split.Statement.{statement}
-use Rattle.keystream.proofs.zuc256.split.Tie as tie
+use Rattle.loading.proofs.zuc256.split.Statement.{statement}
+use Rattle.loading.proofs.zuc256.split.Tie as tie
 
 returns : tie.Need-returns
 returns c = sym (by-shifts (c .args .x) (c .args .y) (c .args .z) (search needs) (search needs) (search needs))

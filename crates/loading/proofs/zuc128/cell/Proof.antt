@@ -1,8 +1,8 @@
 -- `cell` joins its parts: no shift loses a bit; linear arithmetic.
 use native.Mathlib.Omega.{arith}
 use borrow.Author.Needs.{needs}
-use Rattle.keystream.proofs.zuc128.cell.Statement.{statement}
-use Rattle.keystream.proofs.zuc128.cell.Tie as tie
+use Rattle.loading.proofs.zuc128.cell.Statement.{statement}
+use Rattle.loading.proofs.zuc128.cell.Tie as tie
 
 returns : tie.Need-returns
 returns c = omega arith

@@ -1,18 +1,18 @@
--- `load` is the paper's list of cells: the bytes at the table's places are those that the list names, computed.
+-- `load_from` is the paper's list of cells: the bytes at the table's places are those that the list names, computed.
 use lib.Bits.{or-zero-r}
 use lib.ListN.{drop, getD, take}
 use mathlib.Core.List.{List, [], _∷_, _++_}
 use mathlib.Core.Path.{_≡_, _∙_, refl}
 use Prim.Native.Nat.{ℕ, _%_, _+_, _/_, _^_}
-use Rattle.keystream.proofs.Behind.{apart, spelled}
-use Rattle.keystream.proofs.Rows.{inside}
-use Rattle.keystream.specs.Rows.{besides, joined, place}
-use Rattle.keystream.specs.declared.zuc256.Places.{Places}
+use Rattle.loading.proofs.Behind.{apart, spelled}
+use Rattle.loading.proofs.Rows.{inside}
+use Rattle.loading.specs.Rows.{besides, joined, place}
+use Rattle.loading.specs.declared.zuc256.Places.{Places}
 use Rattle.standard.specs.Loading.{IV₂₅₆, _∣_, cells₂₅₆, listed, load₂₅₆}
 use Rattle.standard.specs.Notation.{_‖₇_, _‖₈_}
 use borrow.Author.Needs.{needs}
-use Rattle.keystream.proofs.zuc256.load.Statement.{statement}
-use Rattle.keystream.proofs.zuc256.load.Tie as tie
+use Rattle.loading.proofs.zuc256.load_from.Statement.{statement}
+use Rattle.loading.proofs.zuc256.load_from.Tie as tie
 
 -- the middles: constants p that stand alone, and constants d with bits beside them
 abbrev middles : (ℕ → ℕ) → (ℕ → ℕ) → (ℕ → ℕ) → (ℕ → ℕ) → List ℕ
@@ -42,5 +42,5 @@ returns c =
     c .join .ensures ∙ joined-is _ (a .d) (c .before .beside .result) (a .x) (take 32 (a .x)) (drop 32 (a .x)) (apart (a .x) (search needs)) (c .before .beside .ensures) in
     λ i. record { cells = cells i; R₁ = 0; R₂ = 0 }
 
-pub load-spec : {M : Type 1} → statement M
-load-spec = tie.close (tie.spec (λ c κs. search needs) join-requires returns)
+pub load-from-spec : {M : Type 1} → statement M
+load-from-spec = tie.close (tie.spec (λ c κs. search needs) join-requires returns)

@@ -5,14 +5,14 @@ use mathlib.Core.List.{List}
 use mathlib.Core.Path.{_≡_, _∙_, refl}
 use native.Mathlib.Omega.{arith}
 use Prim.Native.Nat.{ℕ, _-_, _<_, _≤_}
-use Rattle.keystream.specs.Rows.{joined, place}
-use Rattle.keystream.specs.declared.zuc256.Places.{Places}
+use Rattle.loading.specs.Rows.{joined, place}
+use Rattle.loading.specs.declared.zuc256.Places.{Places}
 use Rattle.standard.proofs.Listed.{is-listed, stored}
 use Rattle.standard.specs.Loading.{_∣_}
 use Rattle.standard.specs.Notation.{_‖₇_, _‖₈_}
 use borrow.Author.Needs.{needs}
-use Rattle.keystream.proofs.zuc256.join.Statement.{statement}
-use Rattle.keystream.proofs.zuc256.join.Tie as tie
+use Rattle.loading.proofs.zuc256.join.Statement.{statement}
+use Rattle.loading.proofs.zuc256.join.Tie as tie
 
 abbrev cell : List Places → List ℕ → List ℕ → List ℕ → ℕ → ℕ
 cell places d b x k = getD x (place places k .0) 0 ‖₇ (getD d k 0 ∣ getD b k 0) ‖₈ getD x (place places k .1) 0 ‖₈ getD x (place places k .2) 0

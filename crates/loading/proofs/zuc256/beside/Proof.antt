@@ -3,13 +3,13 @@ use lib.ListN.{drop, getD, take}
 use mathlib.Core.List.{[], _∷_, _++_}
 use mathlib.Core.Path.{_≡_, _∙_}
 use Prim.Native.Nat.{_%_, _/_}
-use Rattle.keystream.proofs.Behind.{apart, spelled}
-use Rattle.keystream.proofs.Sextets.{first-four, last-four}
-use Rattle.keystream.specs.Rows.{sextets, sextetsOf}
+use Rattle.loading.proofs.Behind.{apart, spelled}
+use Rattle.loading.proofs.Sextets.{first-four, last-four}
+use Rattle.loading.specs.Rows.{sextets, sextetsOf}
 use Rattle.standard.specs.Loading.{IV₂₅₆, listed}
 use borrow.Author.Needs.{needs}
-use Rattle.keystream.proofs.zuc256.beside.Statement.{statement}
-use Rattle.keystream.proofs.zuc256.beside.Tie as tie
+use Rattle.loading.proofs.zuc256.beside.Statement.{statement}
+use Rattle.loading.proofs.zuc256.beside.Tie as tie
 
 returns : tie.Need-returns
 unfolding listed

@@ -2,8 +2,8 @@
 use mathlib.Core.List.{List, [], _∷_, _++_}
 use Prim.Native.Nat.{ℕ, _%_, _*_, _/_, _^_, _<_}
 use lib.ListN.{getD}
-use Rattle.keystream.specs.declared.zuc256.Places.{Places}
-use Rattle.keystream.specs.declared.zuc256.Sextets.{Sextets}
+use Rattle.loading.specs.declared.zuc256.Places.{Places}
+use Rattle.loading.specs.declared.zuc256.Sextets.{Sextets}
 use Rattle.standard.specs.Bits.{M, window}
 use Rattle.standard.specs.Generator.{_⟨_⟩}
 use Rattle.standard.specs.Loading.{IV₂₅₆, _∣_, listed}

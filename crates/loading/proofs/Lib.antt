@@ -1,0 +1,4 @@
+pub mod Behind
+pub mod Rows
+pub mod Loaded
+pub mod Sextets

@@ -1,0 +1,3 @@
+// Key loading: what a key and an IV of the right lengths leave in the cells.
+pub mod zuc128;
+pub mod zuc256;
