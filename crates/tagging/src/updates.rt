@@ -9,8 +9,8 @@ ghost use Rattle.registers.specs.Stored.{Held, Width, packed, storedOf, tagOf, 
 ghost use Rattle.registers.specs.Tagging.{absorbed, begun, begun-EIA3, begun-ZUC256, updated};
 ghost use Rattle.tagging.specs.Steps.{Turned};
 use blocks::Moved;
-use blocks::drawn::blocks;
-use blocks::narrow::blocks_32;
+use blocks::blocks;
+use narrow::blocks_32;
 use registers::TagState;
 use registers::draw_words;
 use registers::key_on;

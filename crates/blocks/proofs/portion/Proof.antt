@@ -1,11 +1,11 @@
--- `blocks::drawn::portion` meets its contract: 256 is a multiple of each width, and what is left is cut to one.
+-- `blocks::portion` meets its contract: 256 is a multiple of each width, and what is left is cut to one.
 use mathlib.Core.Logic.{⊎-elim}
 use Prim.Native.Nat.{ℕ, _-_, _/_, _%_, _<_, _≤_}
 use native.Mathlib.Omega.{arith}
 use Rattle.registers.specs.Stored.{Width}
 use Rattle.blocks.specs.Whole.{Portion}
-use Rattle.blocks.proofs.drawn.portion.Statement.{statement}
-use Rattle.blocks.proofs.drawn.portion.Tie as tie
+use Rattle.blocks.proofs.portion.Statement.{statement}
+use Rattle.blocks.proofs.portion.Tie as tie
 
 full : (w left : ℕ) → Width w → 256 ≤ left → Portion w left 256
 full w left v h =

@@ -9,11 +9,11 @@ use Rattle.bulk.specs.Run.{raisedOf}
 use borrow.Author.Needs.{needs}
 use Rattle.registers.specs.Stored.{packed, storedOf, tagOf, taggingOf}
 use Rattle.registers.specs.Tagging.{Tagging, updated}
-use Rattle.blocks.specs.Narrow.{Tagged, taggingAt}
+use Rattle.narrow.specs.Narrow.{Tagged, taggingAt}
 use Rattle.registers.proofs.Cutting.{updated-from}
-use Rattle.blocks.proofs.Bulk.{idle, put-back, taken-out}
-use Rattle.blocks.proofs.narrow.blocks_32.Statement.{statement}
-use Rattle.blocks.proofs.narrow.blocks_32.Tie as tie
+use Rattle.narrow.proofs.Bulk.{idle, put-back, taken-out}
+use Rattle.narrow.proofs.blocks_32.Statement.{statement}
+use Rattle.narrow.proofs.blocks_32.Tie as tie
 
 abbrev Inv-loop : tie.InvT-loop
 Inv-loop t0 t1 message from high run₀ pairs₀ s₀ i₀ run pairs s i =

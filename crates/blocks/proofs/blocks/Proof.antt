@@ -1,4 +1,4 @@
--- `blocks::drawn::blocks` meets its contract: after each turn a portion more of whole blocks has been taken in.
+-- `blocks::blocks` meets its contract: after each turn a portion more of whole blocks has been taken in.
 use mathlib.Core.Path.{_≡_, sym, ap, ap₂, _∙_}
 use Prim.Native.Nat.{ℕ, _+_, _*_, _-_, _≤_}
 use native.Mathlib.Nat.{add-assoc, add-mul}
@@ -11,8 +11,8 @@ use Rattle.registers.specs.Tagging.{updated}
 use Rattle.registers.proofs.Cutting.{updated-from}
 use Rattle.registers.proofs.Packed.{at-packed, good-updated, held-as}
 use Rattle.blocks.proofs.Moves.{cnt-lt}
-use Rattle.blocks.proofs.drawn.blocks.Statement.{statement}
-use Rattle.blocks.proofs.drawn.blocks.Tie as tie
+use Rattle.blocks.proofs.blocks.Statement.{statement}
+use Rattle.blocks.proofs.blocks.Tie as tie
 
 abbrev Inv-loop : tie.InvT-loop
 Inv-loop t0 t1 message from width s₀ i₀ s i =

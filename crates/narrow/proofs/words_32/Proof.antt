@@ -11,9 +11,9 @@ use Rattle.bulk.proofs.Runs.{turn-standing, turn-word}
 use Rattle.bulk.specs.Run.{Standing, Summed, stateAt}
 use borrow.Author.Needs.{needs}
 use Rattle.registers.specs.Tagging.{Tagging, updated}
-use Rattle.blocks.proofs.Bulk.{fed-part, idle}
-use Rattle.blocks.proofs.narrow.words_32.Statement.{statement}
-use Rattle.blocks.proofs.narrow.words_32.Tie as tie
+use Rattle.narrow.proofs.Bulk.{fed-part, idle}
+use Rattle.narrow.proofs.words_32.Statement.{statement}
+use Rattle.narrow.proofs.words_32.Tie as tie
 
 abbrev Inv-loop : tie.InvT-loop
 Inv-loop high low run₀ pairs₀ part h₀ key₀ tag₀ sums₀ n j₀ run pairs h key tag sums j =

@@ -1,4 +1,4 @@
--- `blocks::drawn::feed_all` meets its contract: at place i the bytes before it have been taken in, with the words before i/4.
+-- `blocks::feed_all` meets its contract: at place i the bytes before it have been taken in, with the words before i/4.
 use mathlib.Core.Path.{_≡_, _∙_}
 use Prim.Native.Nat.{ℕ, suc, _+_, _*_, _-_, _/_, _%_, _<_, _≤_}
 use native.Mathlib.Nat.{suc-mul}
@@ -13,8 +13,8 @@ use Rattle.registers.specs.Stored.{Held, packed, taggingOf}
 use Rattle.registers.specs.Tagging.{updated}
 use Rattle.blocks.specs.Whole.{emptyOf}
 use Rattle.blocks.proofs.Ahead.{fed-all, fed-none, fed-on, room, words-lt}
-use Rattle.blocks.proofs.drawn.feed_all.Statement.{statement}
-use Rattle.blocks.proofs.drawn.feed_all.Tie as tie
+use Rattle.blocks.proofs.feed_all.Statement.{statement}
+use Rattle.blocks.proofs.feed_all.Tie as tie
 
 abbrev Inv-loop : tie.InvT-loop
 Inv-loop width words part fed₀ i₀ fed i =

@@ -4,7 +4,7 @@ use mathlib.Core.Path.{_≡_}
 use Prim.Native.Nat.{ℕ}
 use Rattle.bulk.specs.Run.{Laid, Low, stateAt}
 use Rattle.registers.specs.Tagging.{Tagging}
-use Rattle.blocks.specs.declared.narrow.Narrow.{Narrow}
+use Rattle.narrow.specs.declared.Narrow.{Narrow}
 
 -- the tag in the making; nothing waits
 abbrev pub taggingAt : List ℕ → Narrow → Tagging

@@ -1,4 +1,4 @@
--- `blocks::drawn::feed` meets its contract: the words that the generator draws next are those of the part's blocks.
+-- `blocks::feed` meets its contract: the words that the generator draws next are those of the part's blocks.
 use mathlib.Core.List.{List, _++_}
 use mathlib.Core.Path.{_≡_, refl, sym, ap, _∙_}
 use Prim.Native.Nat.{ℕ, _*_, _/_, _≤_}
@@ -15,8 +15,8 @@ use Rattle.registers.specs.Tagging.{Tagging, updated}
 use Rattle.blocks.specs.Whole.{emptyOf}
 use Rattle.blocks.proofs.Ahead.{emptied-is, filled, fours}
 use Rattle.blocks.proofs.Moves.{emptied-held}
-use Rattle.blocks.proofs.drawn.feed.Statement.{statement}
-use Rattle.blocks.proofs.drawn.feed.Tie as tie
+use Rattle.blocks.proofs.feed.Statement.{statement}
+use Rattle.blocks.proofs.feed.Tie as tie
 
 slice-aggregate-words-into : tie.Need-slice-aggregate-words-into
 slice-aggregate-words-into c = sym (length-take-le _ _ (omega arith))
