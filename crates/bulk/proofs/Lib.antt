@@ -1,4 +1,1 @@
-pub mod ByHalves
 pub mod Filling
-pub mod Runs
-pub mod Turned

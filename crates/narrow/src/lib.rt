@@ -3,25 +3,25 @@ ghost use lib.ListN.{length};
 ghost use mathlib.Core.Path.{_≡_};
 ghost use Prim.Native.Nat.{_%_, _≤_};
 ghost use Rattle.standard.specs.Boxes.{S₀-table, S₁-table};
-ghost use Rattle.bulk.specs.Run.{Laid, Low, raisedOf};
+ghost use Rattle.turn.specs.Run.{Laid, Low, raisedOf};
 ghost use Rattle.registers.specs.Stored.{Held, storedOf};
 ghost use Rattle.registers.specs.Tagging.{updated};
 ghost use Rattle.narrow.specs.Narrow.{Tagged, taggingAt};
 ghost use Rattle.blocks.specs.Whole.{Blocks};
 use blocks::Moved;
-use bulk::Halves;
-use bulk::f_by_halves;
-use bulk::grow;
 use bulk::lay_state;
-use bulk::raised;
 use bulk::rest;
 use bulk::smaller;
 use bulk::state_of;
-use bulk::sums_at;
-use bulk::word;
 use registers::TagState;
 use registers::sums::joined;
 use registers::sums::sum_32;
+use turn::Halves;
+use turn::f_by_halves;
+use turn::grow;
+use turn::raised;
+use turn::sums_at;
+use turn::word;
 
 // What the loop carries beside the run: the registers, the key pair and the tag.
 pub struct Narrow {

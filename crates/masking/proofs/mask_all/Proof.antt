@@ -10,7 +10,7 @@ use Rattle.standard.specs.Confidentiality.{eachFrom, masked, wordsToMask}
 use Rattle.standard.specs.Generator.{Cells, State, after, word, wordAt}
 use Rattle.bulk.proofs.Filling.{turn-on}
 use Rattle.zuc.specs.Reading.{Draw, stateOf}
-use Rattle.bulk.specs.Run.{Standing, raisedOf, stateAt}
+use Rattle.turn.specs.Run.{Standing, raisedOf, stateAt}
 use Rattle.masking.proofs.Words.{alone, turn-masked, turn-state}
 use Rattle.masking.proofs.mask_all.Statement.{statement}
 use Rattle.masking.proofs.mask_all.Tie as tie

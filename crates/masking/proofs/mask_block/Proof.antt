@@ -7,8 +7,8 @@ use Rattle.standard.proofs.Each.{doneFrom, from-end, from-start}
 use Rattle.standard.proofs.Generator.{after-none}
 use Rattle.standard.specs.Confidentiality.{masked}
 use Rattle.standard.specs.Generator.{State, after, wordAt}
-use Rattle.bulk.proofs.Runs.{turn-standing, turn-word}
-use Rattle.bulk.specs.Run.{Standing, Summed, stateAt}
+use Rattle.turn.proofs.Runs.{turn-standing, turn-word}
+use Rattle.turn.specs.Run.{Standing, Summed, stateAt}
 use Rattle.masking.proofs.Words.{alone, turn-masked}
 use Rattle.masking.proofs.mask_block.Statement.{statement}
 use Rattle.masking.proofs.mask_block.Tie as tie

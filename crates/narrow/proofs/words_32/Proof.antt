@@ -7,8 +7,8 @@ use Prim.Native.Nat.{ℕ, _+_, _*_, _/_, _-_, _≤_}
 use Rattle.standard.proofs.Generator.{after-none}
 use Rattle.standard.specs.Generator.{State, after}
 use Rattle.standard.specs.Notation.{_⊕_}
-use Rattle.bulk.proofs.Runs.{turn-standing, turn-word}
-use Rattle.bulk.specs.Run.{Standing, Summed, stateAt}
+use Rattle.turn.proofs.Runs.{turn-standing, turn-word}
+use Rattle.turn.specs.Run.{Standing, Summed, stateAt}
 use borrow.Author.Needs.{needs}
 use Rattle.registers.specs.Tagging.{Tagging, updated}
 use Rattle.narrow.proofs.Bulk.{fed-part, idle}

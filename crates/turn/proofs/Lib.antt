@@ -1,0 +1,3 @@
+pub mod ByHalves
+pub mod Runs
+pub mod Turned
