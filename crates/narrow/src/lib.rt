@@ -17,11 +17,11 @@ use registers::TagState;
 use registers::sums::joined;
 use registers::sums::sum_32;
 use turn::Halves;
-use turn::f_by_halves;
+use turn::f_at;
 use turn::grow;
 use turn::raised;
 use turn::sums_at;
-use turn::word;
+use turn::word_at;
 
 // What the loop carries beside the run: the registers, the key pair and the tag.
 pub struct Narrow {
@@ -52,8 +52,8 @@ fn words_32(
         let e = b + 4;
         tag = tag ^ sum_32(key, &part[b..e], 0);
         sums = grow(run, pairs, j, sums);
-        let w = word(run[j + 16], run[j + 15], h, pairs[j + 1]);
-        h = f_by_halves(high, low, h, pairs[j + 10], pairs[j + 6]);
+        let w = word_at(run, pairs, j + 1, h);
+        h = f_at(high, low, pairs, j + 1, h);
         key = joined((key % 0x1_0000_0000) as u32, w);
     }
     rest(run, pairs, n);
