@@ -5,66 +5,20 @@ ghost use mathlib.Core.Path.{_≡_};
 ghost use Prim.Native.Nat.{ℕ};
 ghost use Rattle.arrays.specs.Arrays.{stateIn};
 ghost use Rattle.capi.specs.Generators.{drawArray, maskArray, startArray, wordsArray};
-ghost use Rattle.keystream.specs.Draws.{drawNumber, drawOutcome, drawWord, fillNumber, fillOutcome};
+ghost use Rattle.keystream.specs.Draws.{drawOutcome, fillOutcome};
 ghost use Rattle.keystream.specs.Starts.{startTold, start₁₂₈, start₂₅₆, start-EEA3};
-ghost use Rattle.mask.specs.Outcome.{cleanOutcome, countOf, crateOutcome, numberOf, told};
+ghost use Rattle.mask.specs.Outcome.{cleanOutcome, crateOutcome, told};
 ghost use Rattle.standard.specs.Loading.{d-keystream};
-use super::start_number;
+use answers::draw_number;
+use answers::draw_word;
+use answers::fill_number;
+use answers::mask_count;
+use answers::mask_number;
+use answers::start_number;
 use arrays::array_of;
 use arrays::state_in;
-use keystream::DrawAnswer;
-use keystream::FillAnswer;
 use keystream::Start;
-use mask::MaskAnswer;
 use mask::Masked;
-
-// Document 01's number of each answer, and what else an answer holds.
-fn draw_number(answer: DrawAnswer) -> u32
-    ensures { λ r. ⌜ r ≡ drawNumber answer ⌝ }
-{
-    match answer {
-        DrawAnswer::Word(_) => 0,
-        DrawAnswer::Malformed => 4,
-    }
-}
-
-fn draw_word(answer: DrawAnswer) -> u32
-    ensures { λ r. ⌜ r ≡ drawWord answer ⌝ }
-{
-    match answer {
-        DrawAnswer::Word(w) => w,
-        DrawAnswer::Malformed => 0,
-    }
-}
-
-fn fill_number(answer: FillAnswer) -> u32
-    ensures { λ r. ⌜ r ≡ fillNumber answer ⌝ }
-{
-    match answer {
-        FillAnswer::Filled => 0,
-        FillAnswer::Unfilled => 4,
-    }
-}
-
-fn mask_number(answer: MaskAnswer) -> u32
-    ensures { λ r. ⌜ r ≡ numberOf answer ⌝ }
-{
-    match answer {
-        MaskAnswer::Done(_) => 0,
-        MaskAnswer::Malformed => 4,
-        MaskAnswer::TooLong => 5,
-    }
-}
-
-fn mask_count(answer: MaskAnswer) -> usize
-    ensures { λ r. ⌜ r ≡ countOf answer ⌝ }
-{
-    match answer {
-        MaskAnswer::Done(n) => n,
-        MaskAnswer::Malformed => 0,
-        MaskAnswer::TooLong => 0,
-    }
-}
 
 // What a start hands back goes into the array: zeros, where it was refused.
 fn put_start(state: &mut [u32; 18], start: Start) -> u32

@@ -3,116 +3,26 @@ ghost use mathlib.Core.Path.{_≡_};
 ghost use Rattle.arrays.specs.Arrays.{storedIn};
 ghost use Rattle.capi.specs.Tags.{closingArray, tagArray, twoClosing, twoOnce};
 ghost use Rattle.keystream.specs.Starts.{startNumber};
-ghost use Rattle.mac.specs.Calls.{finishOutcome-128, finishOutcome-256, formed-128, onceOutcome-128, onceOutcome-256, onceOutcome-EIA3, onceTold-128, onceTold-256, startOutcome-128, startOutcome-256, startOutcome-EIA3, tagList, tagNumber-128, tagNumber-256, tagWord, updateNumber, updateOutcome};
+ghost use Rattle.mac.specs.Calls.{finishOutcome-128, finishOutcome-256, formed-128, onceOutcome-128, onceOutcome-256, onceOutcome-EIA3, onceTold-128, startOutcome-128, startOutcome-256, startOutcome-EIA3, updateNumber, updateOutcome};
 ghost use Rattle.registers.specs.Stored.{formed, storedOf};
-use super::start_number;
+use answers::number_128;
+use answers::number_256;
+use answers::once_number_128;
+use answers::once_number_256;
+use answers::once_word;
+use answers::once_words;
+use answers::start_number;
+use answers::tag_word;
+use answers::tag_words;
+use answers::update_number;
 use arrays::tag_array_of;
 use arrays::tag_state_in;
 use keystream::StartAnswer;
 use mac::Mac128;
 use mac::Mac256;
 use mac::Once128;
-use mac::Once256;
-use mac::Tag128;
-use mac::Tag256;
 use mac::UpdateAnswer;
 use registers::TagState;
-
-// Document 01's number of each answer, and the tag that an answer holds.
-fn update_number(answer: UpdateAnswer) -> u32
-    ensures { λ r. ⌜ r ≡ updateNumber answer ⌝ }
-{
-    match answer {
-        UpdateAnswer::Done => 0,
-        UpdateAnswer::Malformed => 4,
-    }
-}
-
-fn number_128(answer: Tag128) -> u32
-    ensures { λ r. ⌜ r ≡ tagNumber-128 answer ⌝ }
-{
-    match answer {
-        Tag128::Tag(_) => 0,
-        Tag128::BadState => 4,
-        Tag128::TooLong => 5,
-    }
-}
-
-fn tag_word(answer: Tag128) -> u32
-    ensures { λ r. ⌜ r ≡ tagWord answer ⌝ }
-{
-    match answer {
-        Tag128::Tag(tag) => tag,
-        Tag128::BadState => 0,
-        Tag128::TooLong => 0,
-    }
-}
-
-fn number_256(answer: Tag256) -> u32
-    ensures { λ r. ⌜ r ≡ tagNumber-256 answer ⌝ }
-{
-    match answer {
-        Tag256::Tag(_, _) => 0,
-        Tag256::BadState => 4,
-        Tag256::TooLong => 5,
-    }
-}
-
-fn tag_words(answer: Tag256) -> [u64; 2]
-    ensures { λ r. ⌜ r ≡ tagList answer ⌝ }
-{
-    match answer {
-        Tag256::Tag(high, low) => [high, low],
-        Tag256::BadState => [0, 0],
-        Tag256::TooLong => [0, 0],
-    }
-}
-
-fn once_number_128(answer: Once128) -> u32
-    ensures { λ r. ⌜ r ≡ onceTold-128 answer .number ⌝ }
-{
-    match answer {
-        Once128::Tag(_) => 0,
-        Once128::BadKey => 2,
-        Once128::BadIv => 3,
-        Once128::TooLong => 5,
-    }
-}
-
-fn once_word(answer: Once128) -> u32
-    ensures { λ r. ⌜ r ≡ onceTold-128 answer .tag ⌝ }
-{
-    match answer {
-        Once128::Tag(tag) => tag,
-        Once128::BadKey => 0,
-        Once128::BadIv => 0,
-        Once128::TooLong => 0,
-    }
-}
-
-fn once_number_256(answer: Once256) -> u32
-    ensures { λ r. ⌜ r ≡ onceTold-256 answer .number ⌝ }
-{
-    match answer {
-        Once256::Tag(_, _) => 0,
-        Once256::BadWidth => 1,
-        Once256::BadKey => 2,
-        Once256::BadIv => 3,
-        Once256::TooLong => 5,
-    }
-}
-
-fn once_words(answer: Once256) -> [u64; 2]
-    ensures { λ r. ⌜ r ≡ onceTold-256 answer .tag ⌝ }
-{
-    match answer {
-        Once256::Tag(high, low) => [high, low],
-        Once256::BadWidth => [0, 0],
-        Once256::BadKey => [0, 0],
-        Once256::BadIv => [0, 0],
-        Once256::TooLong => [0, 0],
-    }
-}
 
 // What a start hands back goes into the array: zeros, where it was refused.
 fn put_start(state: &mut [u64; 19], answer: StartAnswer, s: TagState) -> u32

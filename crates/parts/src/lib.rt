@@ -1,6 +1,8 @@
-// Parts of slices and bytes of text, for the programs: total, so that a program needs no proof of its own for them.
+// Parts of slices, bytes of text and a table to print, for the programs: total, so that a program needs no proof of its own for them.
 ghost use lib.ListN.{length};
 ghost use Prim.Native.Nat.{_<_, _≤_};
+
+pub mod table;
 
 // The value of a hexadecimal digit.
 pub fn digit(c: u8) -> u8

@@ -6,11 +6,15 @@ use super::record::after;
 use super::record::answer_of;
 use super::record::call_of;
 use super::record::field_at;
-use keystream::DrawAnswer;
+use answers::draw_word;
+use answers::mask_count;
+use answers::mask_number;
+use answers::number_128;
+use answers::number_256;
+use answers::tag_word;
+use answers::tag_words;
 use mac::Mac128;
 use mac::Mac256;
-use mac::Tag128;
-use mac::Tag256;
 use mask::MaskAnswer;
 use mask::Masked;
 use parts::bytes_of;
@@ -46,10 +50,7 @@ fn started(r: &[u8], c: Call) -> Zuc {
 fn next_word(state: Zuc) -> u32 {
     let drew = keystream::generate(state);
     let answer = drew.answer;
-    match answer {
-        DrawAnswer::Word(w) => w,
-        DrawAnswer::Malformed => 0,
-    }
+    draw_word(answer)
 }
 
 // The first n words of a buffer filled, and the state after them.
@@ -88,21 +89,10 @@ fn mask_front(state: Zuc, buffer: &mut [u8], n: usize, bits: usize) -> Masked {
 
 // The refusal number and the words drawn of a mask.
 fn mask_told(answer: MaskAnswer, refusal: u8, drawn: usize) -> bool {
-    match answer {
-        MaskAnswer::Done(n) => {
-            if refusal != 0 {
-                return false;
-            }
-            n == drawn
-        }
-        MaskAnswer::Malformed => false,
-        MaskAnswer::TooLong => {
-            if refusal != 5 {
-                return false;
-            }
-            drawn == 0
-        }
+    if mask_number(answer) != refusal as u32 {
+        return false;
     }
+    mask_count(answer) == drawn
 }
 
 fn mask_agrees(r: &[u8], c: Call, a: Answer) -> bool {
@@ -122,7 +112,7 @@ fn mask_agrees(r: &[u8], c: Call, a: Answer) -> bool {
 }
 
 // A tag as the record has it: 16 bytes, and the refusal number.
-fn tag_told(r: &[u8], a: Answer, refusal: u8, x: u64, y: u64) -> bool {
+fn tag_told(r: &[u8], a: Answer, refusal: u32, x: u64, y: u64) -> bool {
     let words = [
         (x >> 32) as u32,
         (x % 0x1_0000_0000) as u32,
@@ -131,7 +121,7 @@ fn tag_told(r: &[u8], a: Answer, refusal: u8, x: u64, y: u64) -> bool {
     ];
     let mut bytes = [0u8; 16];
     bytes_of(&words, &mut bytes);
-    if refusal != a.refusal {
+    if refusal != a.refusal as u32 {
         return false;
     }
     check::same(&bytes, bytes_at(r, a.bytes))
@@ -167,11 +157,7 @@ fn tag128_agrees(r: &[u8], mac: Mac128, c: Call, a: Answer) -> bool {
     let m = updated128(mac, r, c.first, c.updates);
     let done = mac::zuc128::finish(m, bytes_at(r, a.tail), a.bits);
     let answer = done.answer;
-    match answer {
-        Tag128::Tag(x) => tag_told(r, a, 0, x as u64, 0),
-        Tag128::BadState => tag_told(r, a, 4, 0, 0),
-        Tag128::TooLong => tag_told(r, a, 5, 0, 0),
-    }
+    tag_told(r, a, number_128(answer), tag_word(answer) as u64, 0)
 }
 
 fn tag256_agrees(r: &[u8], c: Call, a: Answer) -> bool {
@@ -180,11 +166,8 @@ fn tag256_agrees(r: &[u8], c: Call, a: Answer) -> bool {
     let m = updated256(first, r, c.first, c.updates);
     let done = mac::zuc256::finish(m, bytes_at(r, a.tail), a.bits);
     let answer = done.answer;
-    match answer {
-        Tag256::Tag(x, y) => tag_told(r, a, 0, x, y),
-        Tag256::BadState => tag_told(r, a, 4, 0, 0),
-        Tag256::TooLong => tag_told(r, a, 5, 0, 0),
-    }
+    let tag = tag_words(answer);
+    tag_told(r, a, number_256(answer), tag[0], tag[1])
 }
 
 fn tag_agrees(r: &[u8], c: Call, a: Answer) -> bool {

@@ -1,11 +1,11 @@
 // A table for people: name, expected, got, ok. Bytes are given and shown in hexadecimal.
+use super::front;
+use super::least;
+use super::unhex;
 use io::print_decimal;
 use io::print_hex;
 use io::write_all;
 use libc::STDOUT_FILENO;
-use parts::front;
-use parts::least;
-use parts::unhex;
 
 fn put(text: &[u8]) {
     write_all(STDOUT_FILENO, text);

@@ -2,8 +2,8 @@
 use lib.ListN.{length}
 use Prim.Native.Nat.{_-_, _≤_}
 use borrow.Author.Needs.{needs}
-use Rattle.vectors.proofs.table.put_some.Statement.{statement}
-use Rattle.vectors.proofs.table.put_some.Tie as tie
+use Rattle.parts.proofs.table.put_some.Statement.{statement}
+use Rattle.parts.proofs.table.put_some.Tie as tie
 
 abbrev Inv-loop : tie.InvT-loop
 Inv-loop bytes n i₀ i = n ≤ length bytes

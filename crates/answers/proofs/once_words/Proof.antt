@@ -3,8 +3,8 @@ use mathlib.Core.Path.{ap, sym}
 use Rattle.mac.specs.Calls.{onceTold-256}
 use Rattle.mac.specs.declared.Once256.{Once256}
 use borrow.Author.Needs.{needs}
-use Rattle.capi.proofs.tags.once_words.Statement.{statement}
-use Rattle.capi.proofs.tags.once_words.Tie as tie
+use Rattle.answers.proofs.once_words.Statement.{statement}
+use Rattle.answers.proofs.once_words.Tie as tie
 
 returns : tie.Need-returns
 returns c = sym (ap (λ (a : Once256). onceTold-256 a .tag) (c .before .answer .given .1))

@@ -2,8 +2,8 @@
 use mathlib.Core.Path.{ap, sym}
 use Rattle.mac.specs.Calls.{tagList}
 use borrow.Author.Needs.{needs}
-use Rattle.capi.proofs.tags.tag_words.Statement.{statement}
-use Rattle.capi.proofs.tags.tag_words.Tie as tie
+use Rattle.answers.proofs.tag_words.Statement.{statement}
+use Rattle.answers.proofs.tag_words.Tie as tie
 
 returns : tie.Need-returns
 returns c = sym (ap tagList (c .before .answer .given .1))

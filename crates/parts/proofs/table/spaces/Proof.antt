@@ -1,8 +1,8 @@
 -- `spaces` ends: each turn comes nearer to the last column.
 use Prim.Native.Nat.{_-_}
 use borrow.Author.Needs.{needs}
-use Rattle.vectors.proofs.table.spaces.Statement.{statement}
-use Rattle.vectors.proofs.table.spaces.Tie as tie
+use Rattle.parts.proofs.table.spaces.Statement.{statement}
+use Rattle.parts.proofs.table.spaces.Tie as tie
 
 abbrev Inv-loop : tie.InvT-loop
 Inv-loop from to i₀ space i = Unit {0}

@@ -1,23 +1,13 @@
 // The published keystreams, and the refusals of starts and draws.
-use super::table::number;
-use super::table::row;
-use keystream::DrawAnswer;
+use answers::draw_number;
+use answers::start_number;
 use keystream::Start;
-use keystream::StartAnswer;
 use parts::bytes_of;
 use parts::front;
+use parts::table::number;
+use parts::table::row;
 use parts::unhex;
 use zuc::Zuc;
-
-// Document 01's number of an answer.
-pub fn start_number(answer: StartAnswer) -> u64 {
-    match answer {
-        StartAnswer::Started => 0,
-        StartAnswer::BadWidth => 1,
-        StartAnswer::BadKey => 2,
-        StartAnswer::BadIv => 3,
-    }
-}
 
 // The first words of a started generator, as many as are given.
 fn words(name: &[u8], state: Zuc, want: &[u8]) {
@@ -122,7 +112,7 @@ pub fn published() {
 
 fn refused(name: &[u8], want: u64, start: Start) {
     let answer = start.answer;
-    number(name, want, start_number(answer));
+    number(name, want, start_number(answer) as u64);
 }
 
 // Starts with zeros for key and IV, of the lengths given.
@@ -169,10 +159,7 @@ fn with_cell(i: usize, cell: u32, others: u32) -> Zuc {
 fn draw(name: &[u8], want: u64, state: Zuc) {
     let drew = keystream::generate(state);
     let answer = drew.answer;
-    match answer {
-        DrawAnswer::Word(_) => number(name, want, 0),
-        DrawAnswer::Malformed => number(name, want, 4),
-    }
+    number(name, want, draw_number(answer) as u64);
 }
 
 // The refusals of document 01 that concern starts and draws.

@@ -1,10 +1,11 @@
 // The published EEA3 sets in both modes, P11 of document 01 through the code, and the refusals of masking.
-use super::table::number;
-use super::table::row;
-use mask::MaskAnswer;
+use answers::mask_count;
+use answers::mask_number;
 use mask::Masked;
 use parts::front;
 use parts::least;
+use parts::table::number;
+use parts::table::row;
 use parts::unhex;
 use zuc::Zuc;
 
@@ -175,53 +176,47 @@ pub fn p11() {
     masked(true, b"P11 clean, L = 32", state, 32, five, b"1122334400");
 }
 
-fn mask_number(masked: Masked) -> u64 {
+// A row for the number of a mask's answer.
+fn answered(name: &[u8], want: u64, masked: Masked) {
     let answer = masked.answer;
-    match answer {
-        MaskAnswer::Done(_) => 0,
-        MaskAnswer::Malformed => 4,
-        MaskAnswer::TooLong => 5,
-    }
+    number(name, want, mask_number(answer) as u64);
 }
 
-fn words_drawn(masked: Masked) -> u64 {
+// A row for the words that a mask drew.
+fn drawn(name: &[u8], want: u64, masked: Masked) {
     let answer = masked.answer;
-    match answer {
-        MaskAnswer::Done(n) => n as u64,
-        MaskAnswer::Malformed => 0,
-        MaskAnswer::TooLong => 0,
-    }
+    number(name, want, mask_count(answer) as u64);
 }
 
 // The refusals of masking, and the buffer that they leave.
 pub fn refusals() {
     let state = two_words();
     let mut buffer = [7u8; 5];
-    number(
+    answered(
         b"mask 5 bytes, L = 41",
         5,
-        mask_number(mask::mask_crate(state, &mut buffer, 41)),
+        mask::mask_crate(state, &mut buffer, 41),
     );
-    number(
+    answered(
         b"clean 5 bytes, L = 41",
         5,
-        mask_number(mask::mask_clean(state, &mut buffer, 41)),
+        mask::mask_clean(state, &mut buffer, 41),
     );
     let most = 18446744073709551615;
-    number(
+    answered(
         b"mask, L = largest usize",
         5,
-        mask_number(mask::mask_crate(state, &mut buffer, most)),
+        mask::mask_crate(state, &mut buffer, most),
     );
     let zeros = Zuc {
         s: [0u32; 16],
         r1: 0,
         r2: 0,
     };
-    number(
+    answered(
         b"mask, malformed, L = 41",
         4,
-        mask_number(mask::mask_crate(zeros, &mut buffer, 41)),
+        mask::mask_crate(zeros, &mut buffer, 41),
     );
     row(b"  buffer left by refusals", b"0707070707", &buffer);
 }
@@ -230,20 +225,16 @@ pub fn refusals() {
 pub fn counts() {
     let state = two_words();
     let mut none = [0u8; 0];
-    number(
+    answered(
         b"mask no bytes, L = 0",
         0,
-        mask_number(mask::mask_crate(state, &mut none, 0)),
+        mask::mask_crate(state, &mut none, 0),
     );
-    number(
-        b"  words drawn",
-        1,
-        words_drawn(mask::mask_clean(state, &mut none, 0)),
-    );
+    drawn(b"  words drawn", 1, mask::mask_clean(state, &mut none, 0));
     let mut four = [0u8; 4];
-    number(
+    drawn(
         b"mask 4 bytes: words drawn",
         2,
-        words_drawn(mask::mask_crate(state, &mut four, 32)),
+        mask::mask_crate(state, &mut four, 32),
     );
 }

@@ -1,8 +1,14 @@
 // The published EIA3 and ZUC-256 tags, each at once and cut into updates; P9 and P10 of document 01 through the code; refusals.
 ghost use Prim.Native.Nat.{_≤_};
-use super::starts::start_number;
-use super::table::number;
-use super::table::row;
+use answers::number_128;
+use answers::number_256;
+use answers::once_number_128;
+use answers::once_number_256;
+use answers::once_word;
+use answers::once_words;
+use answers::start_number;
+use answers::tag_word;
+use answers::tag_words;
 use mac::Finish128;
 use mac::Finish256;
 use mac::Mac128;
@@ -11,26 +17,19 @@ use mac::Once128;
 use mac::Once256;
 use mac::Start128;
 use mac::Start256;
-use mac::Tag128;
-use mac::Tag256;
 use parts::bytes_of;
 use parts::front;
 use parts::least;
+use parts::table::number;
+use parts::table::row;
 use parts::unhex;
 use registers::TagState;
 use zuc::Zuc;
 
 // Document 01's number of an answer, and the tag in words of 32 bits, the highest first.
 struct Told {
-    number: u64,
+    number: u32,
     words: [u32; 4],
-}
-
-fn refused(number: u64) -> Told {
-    Told {
-        number,
-        words: [0u32; 4],
-    }
 }
 
 fn high(x: u64) -> u32 {
@@ -41,49 +40,43 @@ fn low(x: u64) -> u32 {
     (x % 0x1_0000_0000) as u32
 }
 
-fn tagged(width: usize, x: u64, y: u64) -> Told {
-    let words = match width {
+fn words_of(width: usize, tag: [u64; 2]) -> [u32; 4] {
+    let x = tag[0];
+    let y = tag[1];
+    match width {
         4 => [low(x), 0, 0, 0],
         8 => [high(x), low(x), 0, 0],
         _ => [high(x), low(x), high(y), low(y)],
-    };
-    Told { number: 0, words }
+    }
 }
 
 fn of_once128(once: Once128) -> Told {
-    match once {
-        Once128::Tag(x) => tagged(4, x as u64, 0),
-        Once128::BadKey => refused(2),
-        Once128::BadIv => refused(3),
-        Once128::TooLong => refused(5),
+    Told {
+        number: once_number_128(once),
+        words: [once_word(once), 0, 0, 0],
     }
 }
 
 fn of_once256(width: usize, once: Once256) -> Told {
-    match once {
-        Once256::Tag(x, y) => tagged(width, x, y),
-        Once256::BadWidth => refused(1),
-        Once256::BadKey => refused(2),
-        Once256::BadIv => refused(3),
-        Once256::TooLong => refused(5),
+    Told {
+        number: once_number_256(once),
+        words: words_of(width, once_words(once)),
     }
 }
 
 fn of_finish128(finish: Finish128) -> Told {
     let answer = finish.answer;
-    match answer {
-        Tag128::Tag(x) => tagged(4, x as u64, 0),
-        Tag128::BadState => refused(4),
-        Tag128::TooLong => refused(5),
+    Told {
+        number: number_128(answer),
+        words: [tag_word(answer), 0, 0, 0],
     }
 }
 
 fn of_finish256(width: usize, finish: Finish256) -> Told {
     let answer = finish.answer;
-    match answer {
-        Tag256::Tag(x, y) => tagged(width, x, y),
-        Tag256::BadState => refused(4),
-        Tag256::TooLong => refused(5),
+    Told {
+        number: number_256(answer),
+        words: words_of(width, tag_words(answer)),
     }
 }
 
@@ -475,35 +468,37 @@ pub fn p9_p10() {
     p10();
 }
 
+// A row for the number of a one-shot's answer.
+fn once_128(name: &[u8], want: u64, once: Once128) {
+    number(name, want, once_number_128(once) as u64);
+}
+
 // The refusals of tags, each lowest first.
 fn refused_128() {
     let k = [0u8; 16];
     let v = [0u8; 17];
     let m = [0u8; 5];
-    number(
+    once_128(
         b"EIA3 key 15, L = 41",
         2,
-        of_once128(mac::eia3::compute(0, 0, 0, front(&k, 15), &m, 41)).number,
+        mac::eia3::compute(0, 0, 0, front(&k, 15), &m, 41),
     );
-    number(
+    once_128(
         b"EIA3 key 16, L = 41",
         5,
-        of_once128(mac::eia3::compute(0, 0, 0, &k, &m, 41)).number,
+        mac::eia3::compute(0, 0, 0, &k, &m, 41),
     );
-    number(
+    once_128(
         b"ZUC-128 tag IV 17, L = 41",
         3,
-        of_once128(mac::zuc128::compute(&k, &v, &m, 41)).number,
+        mac::zuc128::compute(&k, &v, &m, 41),
     );
 }
 
 fn once_256(name: &[u8], want: u64, width: usize, key: &[u8], iv: &[u8]) {
     let m = [0u8; 5];
-    number(
-        name,
-        want,
-        of_once256(width, mac::zuc256::compute(width, key, iv, &m, 41)).number,
-    );
+    let once = mac::zuc256::compute(width, key, iv, &m, 41);
+    number(name, want, once_number_256(once) as u64);
 }
 
 fn refused_256() {
@@ -515,7 +510,11 @@ fn refused_256() {
     once_256(b"ZUC-256 tag L = 41", 5, 4, front(&k, 32), front(&v, 23));
     let refused = mac::zuc256::new(5, &k, &v);
     let answer = refused.answer;
-    number(b"ZUC-256 tag start, width 5", 1, start_number(answer));
+    number(
+        b"ZUC-256 tag start, width 5",
+        1,
+        start_number(answer) as u64,
+    );
 }
 
 // A state closes once.
@@ -523,11 +522,9 @@ fn closed() {
     let m = [0u8; 5];
     let done = mac::zuc128::finish(begun128(), &m, 40);
     let spent = done.mac;
-    number(
-        b"finish of a closed state",
-        4,
-        of_finish128(mac::zuc128::finish(spent, &m, 40)).number,
-    );
+    let again = mac::zuc128::finish(spent, &m, 40);
+    let answer = again.answer;
+    number(b"finish of a closed state", 4, number_128(answer) as u64);
 }
 
 pub fn refusals() {

@@ -6,8 +6,8 @@ use mathlib.Core.Path.{_≡_, sym}
 use native.Mathlib.Omega.{arith}
 use Prim.Native.Nat.{ℕ, _≤_}
 use borrow.Author.Needs.{needs}
-use Rattle.vectors.proofs.masks.mask_front.Statement.{statement}
-use Rattle.vectors.proofs.masks.mask_front.Tie as tie
+use Rattle.stream_vectors.proofs.masks.mask_front.Statement.{statement}
+use Rattle.stream_vectors.proofs.masks.mask_front.Tie as tie
 
 part : (n : ℕ) (l : List ℕ) → n ≤ length l → n ≡ length (take n l)
 part n l h = sym (length-take-le n l h)

@@ -2,8 +2,8 @@
 use lib.ListN.{length}
 use Prim.Native.Nat.{_-_, _/_, _≤_}
 use borrow.Author.Needs.{needs}
-use Rattle.vectors.proofs.tags.cut128.Statement.{statement}
-use Rattle.vectors.proofs.tags.cut128.Tie as tie
+use Rattle.tag_vectors.proofs.cut128.Statement.{statement}
+use Rattle.tag_vectors.proofs.cut128.Tie as tie
 
 abbrev Inv-loop : tie.InvT-loop
 Inv-loop message bits less mac₀ whole i₀ mac i = (i ≤ whole) × (whole ≤ bits / 8) × (whole ≤ length message)
