@@ -1,8 +1,8 @@
--- Whole blocks in bulk: what is promised of them, of the words drawn before they are used, and of the bytes taken at a time.
+-- Whole blocks in bulk: what is promised of the words drawn before they are used, and of the bytes taken at a time.
 use mathlib.Core.List.{List}
 use mathlib.Core.Path.{_≡_}
-use Prim.Native.Nat.{ℕ, _+_, _-_, _*_, _/_, _<_, _≤_}
-use lib.ListN.{drop, length, replicate, take}
+use Prim.Native.Nat.{ℕ, _*_, _/_, _≤_}
+use lib.ListN.{length, replicate}
 use Rattle.standard.specs.Bits.{z}
 use Rattle.standard.specs.Generator.{State, _⟨_⟩, after, wordAt}
 use Rattle.standard.specs.Loading.{listed}
@@ -30,11 +30,3 @@ pub record Portion (width left r : ℕ) : Type 0 where
   pub some : width ≤ left → width ≤ r
   pub count : ℕ
   pub whole : r ≡ count * width
-
--- the bytes from i up to a returned place have been taken in: all that make whole blocks
-pub record Blocks (s : Stored) (message : List ℕ) (i : ℕ) (r : Stored) (at : ℕ) : Type 0 where
-  pub count : ℕ
-  pub at-is : at ≡ i + count * s .width
-  pub within : at ≤ length message
-  pub all : length message < at + s .width
-  pub held : r ≡ packed (s .width) (updated (s .width * 8) (taggingOf s) (take (at - i) (drop i message)))

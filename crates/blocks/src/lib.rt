@@ -4,19 +4,15 @@ ghost use mathlib.Core.Path.{_≡_};
 ghost use Prim.Native.Nat.{ℕ, _+_, _*_, _/_, _≤_};
 ghost use Rattle.standard.specs.Bits.{window};
 ghost use Rattle.standard.specs.Boxes.{S₀-table, S₁-table};
+ghost use Rattle.registers.specs.Blocks.{Blocks};
 ghost use Rattle.registers.specs.Stored.{Held, Width, packed, storedOf, tagWords, taggingOf};
 ghost use Rattle.registers.specs.Tagging.{updated};
-ghost use Rattle.blocks.specs.Whole.{Blocks, Portion, bitsOf, fedBy};
+ghost use Rattle.blocks.specs.Whole.{Portion, bitsOf, fedBy};
+use registers::Moved;
 use registers::TagState;
 use registers::key_on;
 use registers::sums::joined;
 use registers::tag_with;
-
-// A state, and the place in the message up to which it has taken the bytes in.
-pub struct Moved {
-    pub s: TagState,
-    pub at: usize,
-}
 
 // The keystream bits of a block out of words drawn before, in the words of a tag.
 fn fresh_at(width: usize, words: &[u32], at: usize) -> [u64; 2]

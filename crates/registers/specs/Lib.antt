@@ -1,3 +1,4 @@
 pub mod Tagging
 pub mod Stored
 pub mod Lookup
+pub mod Blocks

@@ -31,6 +31,12 @@ pub struct TagState {
     pub width: usize,
 }
 
+// A state, and the place in the message up to which it has taken the bytes in.
+pub struct Moved {
+    pub s: TagState,
+    pub at: usize,
+}
+
 // As many keystream bits as a tag has, in the words of a tag, and the generator after them.
 pub struct Fresh {
     pub words: [u64; 2],

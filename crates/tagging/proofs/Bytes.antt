@@ -8,7 +8,7 @@ use lib.ListN.{drop, getD, length, length-append, replicate, set, take}
 use lib.Seq.{append-snoc, drop-cons, set-at, take-all, take-at}
 use Rattle.registers.specs.Stored.{Held, Stored, packed, taggingOf}
 use Rattle.registers.specs.Tagging.{absorbed, fed, updated}
-use Rattle.blocks.specs.Whole.{Blocks}
+use Rattle.registers.specs.Blocks.{Blocks}
 use Rattle.registers.proofs.Cutting.{absorbed-fills, absorbed-waits}
 use Rattle.blocks.proofs.Moves.{block-is, cnt-is, cnt-lt, cnt-most, emptied, emptied-held}
 

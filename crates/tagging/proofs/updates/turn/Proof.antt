@@ -7,7 +7,7 @@ use lib.ListN.{length}
 use borrow.Author.Needs.{needs}
 use denote.Ref.{now}
 use Rattle.registers.specs.Stored.{Stored, storedOf}
-use Rattle.blocks.specs.Whole.{Blocks}
+use Rattle.registers.specs.Blocks.{Blocks}
 use Rattle.tagging.specs.Steps.{Turned}
 use Rattle.tagging.proofs.Bytes.{byte-is}
 use Rattle.tagging.proofs.updates.turn.Statement.{statement}
