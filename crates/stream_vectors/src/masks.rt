@@ -164,16 +164,18 @@ fn two_words() -> Zuc {
 }
 
 // P11: five zero bytes under the words 11223344 55667788.
+fn p11_row(clean: bool, name: &[u8], bits: usize, want: &[u8]) {
+    masked(clean, name, two_words(), bits, b"0000000000", want);
+}
+
 pub fn p11() {
-    let state = two_words();
-    let five = b"0000000000";
-    masked(false, b"P11 crate, L = 40", state, 40, five, b"1122334455");
-    masked(false, b"P11 crate, L = 32", state, 32, five, b"1122334455");
-    masked(false, b"P11 crate, L = 35", state, 35, five, b"1122334440");
-    masked(false, b"P11 crate, L = 33", state, 33, five, b"1122334400");
-    masked(false, b"P11 crate, L = 24", state, 24, five, b"1122334400");
-    masked(false, b"P11 crate, L = 0", state, 0, five, b"1100000000");
-    masked(true, b"P11 clean, L = 32", state, 32, five, b"1122334400");
+    p11_row(false, b"P11 crate, L = 40", 40, b"1122334455");
+    p11_row(false, b"P11 crate, L = 32", 32, b"1122334455");
+    p11_row(false, b"P11 crate, L = 35", 35, b"1122334440");
+    p11_row(false, b"P11 crate, L = 33", 33, b"1122334400");
+    p11_row(false, b"P11 crate, L = 24", 24, b"1122334400");
+    p11_row(false, b"P11 crate, L = 0", 0, b"1100000000");
+    p11_row(true, b"P11 clean, L = 32", 32, b"1122334400");
 }
 
 // A row for the number of a mask's answer.

@@ -165,12 +165,17 @@ fn cuts256(width: usize, start: Start256, message: &[u8], bits: usize, want: Tol
     n
 }
 
-// A row for the tag of a whole message, and one for its cuts.
-fn rows(name: &[u8], width: usize, told: Told, cuts: u64, want: &[u8]) {
+// A row for a tag of a width in bytes.
+fn tag_row(name: &[u8], width: usize, told: Told, want: &[u8]) {
     let words = told.words;
     let mut bytes = [0u8; 16];
     bytes_of(&words, &mut bytes);
     row(name, want, front(&bytes, width));
+}
+
+// A row for the tag of a whole message, and one for its cuts.
+fn rows(name: &[u8], width: usize, told: Told, cuts: u64, want: &[u8]) {
+    tag_row(name, width, told, want);
     number(b"  the same by five cuts", 5, cuts);
 }
 
@@ -182,29 +187,22 @@ struct Set {
     bits: usize,
 }
 
+// The key and the message as bytes.
+fn eia3_rows(name: &[u8], set: Set, key: &[u8], message: &[u8], want: &[u8]) {
+    let bits = set.bits;
+    let once = mac::eia3::compute(set.count, set.bearer, set.direction, key, message, bits);
+    let told = of_once128(once);
+    let start = mac::eia3::new(set.count, set.bearer, set.direction, key);
+    rows(name, 4, told, cuts128(start, message, bits, told), want);
+}
+
+// The key and the message in hexadecimal.
 fn eia3(name: &[u8], set: Set, key: &[u8], message: &[u8], want: &[u8]) {
     let mut k = [0u8; 32];
     let n = unhex(key, &mut k);
     let mut m = [0u8; 1024];
     let len = unhex(message, &mut m);
-    let bits = set.bits;
-    let once = mac::eia3::compute(
-        set.count,
-        set.bearer,
-        set.direction,
-        front(&k, n),
-        front(&m, len),
-        bits,
-    );
-    let told = of_once128(once);
-    let start = mac::eia3::new(set.count, set.bearer, set.direction, front(&k, n));
-    rows(
-        name,
-        4,
-        told,
-        cuts128(start, front(&m, len), bits, told),
-        want,
-    );
+    eia3_rows(name, set, front(&k, n), front(&m, len), want);
 }
 
 // The paper's messages: a byte, repeated for as many bits; key and IV are of one byte each, too.
@@ -431,18 +429,12 @@ fn begun256() -> Mac256 {
 
 fn p9_row(name: &[u8], message: &[u8], bits: usize, want: &[u8]) {
     let told = of_finish128(mac::zuc128::finish(begun128(), message, bits));
-    let words = told.words;
-    let mut bytes = [0u8; 16];
-    bytes_of(&words, &mut bytes);
-    row(name, want, front(&bytes, 4));
+    tag_row(name, 4, told, want);
 }
 
 fn p10_row(name: &[u8], message: &[u8], bits: usize, want: &[u8]) {
     let told = of_finish256(4, mac::zuc256::finish(begun256(), message, bits));
-    let words = told.words;
-    let mut bytes = [0u8; 16];
-    bytes_of(&words, &mut bytes);
-    row(name, want, front(&bytes, 4));
+    tag_row(name, 4, told, want);
 }
 
 // P9 and P10 of document 01.
@@ -495,21 +487,27 @@ fn refused_128() {
     );
 }
 
-fn once_256(name: &[u8], want: u64, width: usize, key: &[u8], iv: &[u8]) {
+// A one-shot over zeros, with a key and an IV of the lengths given, and a bit too many.
+fn once_256(name: &[u8], want: u64, width: usize, key: usize, iv: usize) {
+    let k = [0u8; 40];
+    let v = [0u8; 40];
     let m = [0u8; 5];
-    let once = mac::zuc256::compute(width, key, iv, &m, 41);
+    let once = mac::zuc256::compute(width, front(&k, key), front(&v, iv), &m, 41);
     number(name, want, once_number_256(once) as u64);
 }
 
 fn refused_256() {
+    once_256(b"ZUC-256 tag width 5", 1, 5, 33, 24);
+    once_256(b"ZUC-256 tag key 33", 2, 4, 33, 24);
+    once_256(b"ZUC-256 tag IV 24", 3, 4, 32, 24);
+    once_256(b"ZUC-256 tag L = 41", 5, 4, 32, 23);
+}
+
+fn refused_start() {
     let k = [0u8; 33];
     let v = [0u8; 24];
-    once_256(b"ZUC-256 tag width 5", 1, 5, &k, &v);
-    once_256(b"ZUC-256 tag key 33", 2, 4, &k, &v);
-    once_256(b"ZUC-256 tag IV 24", 3, 4, front(&k, 32), &v);
-    once_256(b"ZUC-256 tag L = 41", 5, 4, front(&k, 32), front(&v, 23));
-    let refused = mac::zuc256::new(5, &k, &v);
-    let answer = refused.answer;
+    let start = mac::zuc256::new(5, &k, &v);
+    let answer = start.answer;
     number(
         b"ZUC-256 tag start, width 5",
         1,
@@ -530,5 +528,6 @@ fn closed() {
 pub fn refusals() {
     refused_128();
     refused_256();
+    refused_start();
     closed();
 }
