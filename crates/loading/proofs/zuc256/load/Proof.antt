@@ -1,6 +1,5 @@
 -- `load` is the ZUC-256 load: key and IV, copied into one array, are its two parts.
 use borrow.Rule.Slice.PartMut.{putMid}
-use denote.Ref.{now}
 use lib.ListN.{drop, drop-of-length-le, length, length-append, take}
 use lib.Seq.{drop-at, take-at}
 use mathlib.Core.List.{List, _++_, append-nil}
