@@ -32,14 +32,14 @@ returns c =
     let m = c .before in
     let k = m .before in
     let a = k .before .args in
-    fresh-4 (now (a .words)) (λ i. omega (arith, k .shared-slice-known .given i)) (a .width) (a .at) (m .match .keys1)
+    fresh-4 (now (a .words)) (λ i. k .shared-slice-known .given i .fits) (a .width) (a .at) (m .match .keys1)
 
 returns-2 : tie.Need-returns-2
 returns-2 c =
     let m = c .before .before .before in
     let k = m .before in
     let a = k .before .args in
-    fresh-8 (now (a .words)) (λ i. omega (arith, k .shared-slice-known .given i)) (a .width) (a .at) (m .match .keys2) _ (c .joined .ensures)
+    fresh-8 (now (a .words)) (λ i. k .shared-slice-known .given i .fits) (a .width) (a .at) (m .match .keys2) _ (c .joined .ensures)
 
 small : (c : tie.After-joined3) → c .joined3 .result < 2 ^ 64
 small c = search needs
@@ -50,7 +50,7 @@ returns-3 c =
     let m = d .before .before .before in
     let k = m .before in
     let a = k .before .args in
-    fresh-16 (now (a .words)) (λ i. omega (arith, k .shared-slice-known .given i)) (a .width) (a .at) (wide m) _ _ (small c) (d .joined2 .ensures) (c .joined3 .ensures)
+    fresh-16 (now (a .words)) (λ i. k .shared-slice-known .given i .fits) (a .width) (a .at) (wide m) _ _ (small c) (d .joined2 .ensures) (c .joined3 .ensures)
 
 pub fresh-at-spec : {M : Type 1} → statement M
 fresh-at-spec =

@@ -14,7 +14,7 @@ returns : tie.Need-returns
 returns c =
     let s = c .before .before .before .before .before .before .before in
     let a = s .before .args in
-    let bytes : (i : ℕ) → getD (now (a .buf)) i 0 < 2 ^ 8 = λ i. omega (arith, s .slice-known .given i) in
+    let bytes : (i : ℕ) → getD (now (a .buf)) i 0 < 2 ^ 8 = λ i. s .slice-known .given i .fits in
     ap (λ (x : List ℕ). set x (a .q) (c .before .before .before .before .keep-high .result)) (c .before .before .zero-from .ensures)
     ∙ clear-from (now (a .buf)) (a .q) (a .k) _ bytes (omega arith) (omega arith) (c .before .before .before .before .keep-high .ensures)
 

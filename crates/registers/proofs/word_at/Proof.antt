@@ -1,6 +1,5 @@
 -- `registers::word_at` meets its contract: four bytes are a window of 32 bits.
 use mathlib.Core.Path.{_∙_}
-use native.Mathlib.Omega.{arith}
 use borrow.Author.Needs.{needs}
 use denote.Ref.{now}
 use Rattle.registers.proofs.Widths.{bytes-32}
@@ -11,7 +10,7 @@ returns : tie.Need-returns
 returns c =
     let k = c .before .before .before .before .before in
     let a = k .before .args in
-    c .word-of .ensures ∙ bytes-32 (now (a .block)) (a .at) (λ i. omega (arith, k .shared-slice-known .given i))
+    c .word-of .ensures ∙ bytes-32 (now (a .block)) (a .at) (λ i. k .shared-slice-known .given i .fits)
 
 pub word-at-spec : {M : Type 1} → statement M
 word-at-spec =

@@ -1,7 +1,6 @@
 -- `mac::eia3::compute` meets its contract: the ZUC-128 start with EIA3's IV, and the standard's tag of the message over it.
 use mathlib.Core.Path.{_∙_, ap, subst, sym}
 use Prim.Native.Nat.{ℕ}
-use native.Mathlib.Omega.{arith}
 use borrow.Author.Needs.{needs}
 use denote.Ref.{now}
 use mir.Syntax.{w8}
@@ -23,7 +22,7 @@ tag-from-requires c κs =
     let v = c .before .before in
     let k = v .before .before in
     let key = now (k .before .args .key) in (
-      subst Ready (sym (c .new .ensures)) (ready-128 key (v .iv .result) (λ i. omega (arith, k .shared-slice-known .given i)) (λ i. iv-bytes v i .fits)),
+      subst Ready (sym (c .new .ensures)) (ready-128 key (v .iv .result) (λ i. k .shared-slice-known .given i .fits) (λ i. iv-bytes v i .fits)),
       λ e. no-width-128 key (v .iv .result) (ap (λ (o : StartOutcome). o .number) (sym (c .new .ensures)) ∙ e),
     )
 

@@ -1,7 +1,6 @@
 -- `mac::eia3::new` meets its contract: the ZUC-128 start with EIA3's IV.
 use mathlib.Core.Path.{_∙_, ap, subst, sym}
 use Prim.Native.Nat.{ℕ}
-use native.Mathlib.Omega.{arith}
 use borrow.Author.Needs.{needs}
 use denote.Ref.{now}
 use mir.Syntax.{w8}
@@ -21,7 +20,7 @@ begin-from-requires c κs =
     let v = c .before .before in
     let k = v .before in
     subst Ready (sym (c .new .ensures))
-    (ready-128 (now (k .before .args .key)) (v .iv .result) (λ i. omega (arith, k .shared-slice-known .given i)) (λ i. iv-bytes v i .fits))
+    (ready-128 (now (k .before .args .key)) (v .iv .result) (λ i. k .shared-slice-known .given i .fits) (λ i. iv-bytes v i .fits))
 
 returns : tie.Need-returns
 unfolding startOutcome-EIA3

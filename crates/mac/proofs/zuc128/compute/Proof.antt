@@ -1,6 +1,5 @@
 -- `mac::zuc128::compute` meets its contract: the keystream's start, and the standard's tag of the message over it.
 use mathlib.Core.Path.{_∙_, ap, subst, sym}
-use native.Mathlib.Omega.{arith}
 use borrow.Author.Needs.{needs}
 use denote.Ref.{now}
 use Rattle.keystream.specs.Starts.{StartOutcome}
@@ -16,7 +15,7 @@ tag-from-requires c κs =
     let k = v .before in
     let a = k .before .args in (
       subst Ready (sym (c .new .ensures))
-          (ready-128 (now (a .key)) (now (a .iv)) (λ i. omega (arith, k .shared-slice-known .given i)) (λ i. omega (arith, v .shared-slice-known2 .given i))),
+          (ready-128 (now (a .key)) (now (a .iv)) (λ i. k .shared-slice-known .given i .fits) (λ i. v .shared-slice-known2 .given i .fits)),
       λ e. no-width-128 (now (a .key)) (now (a .iv)) (ap (λ (o : StartOutcome). o .number) (sym (c .new .ensures)) ∙ e),
     )
 

@@ -1,6 +1,5 @@
 -- `mac::zuc128::new` meets its contract: the keystream's start, and a tag state from it.
 use mathlib.Core.Path.{_∙_, ap, subst, sym}
-use native.Mathlib.Omega.{arith}
 use borrow.Author.Needs.{needs}
 use denote.Ref.{now}
 use Rattle.mac.specs.Calls.{Ready, begun-128, startOutcome-128}
@@ -14,7 +13,7 @@ begin-from-requires c κs =
     let k = v .before in
     let a = k .before .args in
     subst Ready (sym (c .new .ensures))
-    (ready-128 (now (a .key)) (now (a .iv)) (λ i. omega (arith, k .shared-slice-known .given i)) (λ i. omega (arith, v .shared-slice-known2 .given i)))
+    (ready-128 (now (a .key)) (now (a .iv)) (λ i. k .shared-slice-known .given i .fits) (λ i. v .shared-slice-known2 .given i .fits))
 
 returns : tie.Need-returns
 unfolding startOutcome-128

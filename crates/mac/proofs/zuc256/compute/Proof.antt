@@ -2,7 +2,6 @@
 use mathlib.Core.List.{List}
 use mathlib.Core.Path.{_≡_, refl, sym, ap, _∙_, subst}
 use Prim.Native.Nat.{ℕ, _*_}
-use native.Mathlib.Omega.{arith}
 use lib.ListN.{length}
 use borrow.Author.Needs.{needs}
 use borrow.Author.Tests.{leb-true, not-false, not-true}
@@ -35,7 +34,7 @@ module _ (n : tie.After-new-with-d) (e : startTold (n .new-with-d .result) .numb
       let k = v .before in
       let a = k .before .args in
       subst Ready (sym (n .new-with-d .ensures))
-      (ready-256 (a .width) (now (a .key)) (now (a .iv)) (λ i. omega (arith, k .shared-slice-known .given i)) (λ i. omega (arith, v .shared-slice-known2 .given i))) e
+      (ready-256 (a .width) (now (a .key)) (now (a .iv)) (λ i. k .shared-slice-known .given i .fits) (λ i. v .shared-slice-known2 .given i .fits)) e
 
 -- the outcome, told of the keystream's start
 told : (n : tie.After-new-with-d)

@@ -1,6 +1,5 @@
 -- `mac::zuc256::new` meets its contract: each answer of the keystream's start keeps its number; else a tag state of the width.
 use mathlib.Core.Path.{_≡_, refl, sym, ap, _∙_, subst}
-use native.Mathlib.Omega.{arith}
 use borrow.Author.Needs.{needs}
 use denote.Ref.{now}
 use Rattle.standard.specs.Boxes.{S₀-table, S₁-table}
@@ -32,7 +31,7 @@ begin-256-requires c κs =
         refl,
         (
           subst Ready (sym (n .new-with-d .ensures))
-              (ready-256 (a .width) (now (a .key)) (now (a .iv)) (λ i. omega (arith, k .shared-slice-known .given i)) (λ i. omega (arith, v .shared-slice-known2 .given i))) e,
+              (ready-256 (a .width) (now (a .key)) (now (a .iv)) (λ i. k .shared-slice-known .given i .fits) (λ i. v .shared-slice-known2 .given i .fits)) e,
           accepted-width (a .width) (now (a .key)) (now (a .iv)) (zero-number n e),
         ),
       ),

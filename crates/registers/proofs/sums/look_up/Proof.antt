@@ -2,7 +2,6 @@
 use mathlib.Core.Path.{ap, ap₂, _∙_}
 use Prim.Native.Nat.{ℕ, _+_, _<_, _^_}
 use lib.Bits.{bitXor}
-use native.Mathlib.Omega.{arith}
 use borrow.Author.Needs.{needs}
 use denote.Ref.{now}
 use Rattle.standard.specs.Generator.{_⟨_⟩}
@@ -19,7 +18,7 @@ returns c =
     let first = second .before .before in
     let known = first .before .before in
     let a = known .before .args in
-    let small : (i : ℕ) → now (a .block) ⟨ i ⟩ < 2 ^ 8 = λ i. omega (arith, known .shared-slice-known .given i) in
+    let small : (i : ℕ) → now (a .block) ⟨ i ⟩ < 2 ^ 8 = λ i. known .shared-slice-known .given i .fits in
     ap₂ bitXor (ap₂ bitXor (ap₂ bitXor (first .of-byte .ensures) (second .of-byte2 .ensures)) (third .of-byte3 .ensures)) (c .of-byte4 .ensures)
     ∙ by-bytes (now (a .table)) _ _ _ _ (small (a .at)) (small (a .at + 1)) (small (a .at + 2)) (small (a .at + 3))
     ∙ ap (λ (x : ℕ). lookedUp (now (a .table)) x 8) (bytes-32 (now (a .block)) (a .at) small)
