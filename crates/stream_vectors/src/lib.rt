@@ -1,3 +1,12 @@
 // The published keystreams and masks, P11 of document 01 and the refusals of starts, draws and masks, as rows of the table.
-pub mod masks;
-pub mod starts;
+mod masks;
+mod starts;
+
+pub fn show() {
+    starts::published();
+    starts::refusals();
+    masks::published();
+    masks::p11();
+    masks::refusals();
+    masks::counts();
+}

@@ -304,7 +304,7 @@ fn eia3_set5() {
 }
 
 // ETSI/SAGE Document 3, 128-EIA3 sets 1 to 5.
-pub fn published_eia3() {
+fn published_eia3() {
     eia3_set1();
     eia3_set2();
     eia3_set3();
@@ -360,7 +360,7 @@ fn ones_zuc256() {
     );
 }
 
-pub fn published_zuc256() {
+fn published_zuc256() {
     zeros_zuc256();
     ones_zuc256();
 }
@@ -455,7 +455,7 @@ fn p10() {
     p10_row(b"P10, one set bit", &set, 1, b"80000003");
 }
 
-pub fn p9_p10() {
+fn p9_p10() {
     p9();
     p10();
 }
@@ -525,9 +525,16 @@ fn closed() {
     number(b"finish of a closed state", 4, number_128(answer) as u64);
 }
 
-pub fn refusals() {
+fn refusals() {
     refused_128();
     refused_256();
     refused_start();
     closed();
+}
+
+pub fn show() {
+    published_eia3();
+    published_zuc256();
+    p9_p10();
+    refusals();
 }
