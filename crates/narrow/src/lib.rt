@@ -17,11 +17,9 @@ use registers::TagState;
 use registers::sums::joined;
 use registers::sums::sum_32;
 use turn::Halves;
-use turn::f_at;
-use turn::grow;
 use turn::raised;
 use turn::sums_at;
-use turn::word_at;
+use turn::turn;
 
 // What the loop carries beside the run: the registers, the key pair and the tag.
 pub struct Narrow {
@@ -51,10 +49,10 @@ fn words_32(
         let b = 4 * j;
         let e = b + 4;
         tag = tag ^ sum_32(key, &part[b..e], 0);
-        sums = grow(run, pairs, j, sums);
-        let w = word_at(run, pairs, j + 1, h);
-        h = f_at(high, low, pairs, j + 1, h);
-        key = joined((key % 0x1_0000_0000) as u32, w);
+        let t = turn(high, low, run, pairs, j, h, sums);
+        key = joined((key % 0x1_0000_0000) as u32, t.word);
+        h = t.h;
+        sums = t.sums;
     }
     rest(run, pairs, n);
     Narrow { h, key, tag }

@@ -33,44 +33,35 @@ loop-holds c =
     let pre = c .before .before .before .before .before .pre .1 .1 in
     (omega arith, omega (arith, pre .1 .1 .0), refl, c .sums-at .ensures, record { laid = pre .0; low = pre .1 .0; state = sym (after-none _) }, refl)
 
-grow-requires : tie.Need-grow-requires Inv-loop μ-loop
-grow-requires c κs = let inv = c .before .before .before .loop .inv in (inv .4 .laid, (inv .3, omega arith))
-
-f-at-requires : tie.Need-f-at-requires Inv-loop μ-loop
-f-at-requires c κs =
-    let at-grow = c .before .before .before .before .before in
-    let loop = at-grow .before .before .before .before in
+turn-requires : tie.Need-turn-requires Inv-loop μ-loop
+turn-requires c κs =
+    let loop = c .before .before .before in
+    let inv = loop .loop .inv in
     let pre = loop .before .before .before .before .before .before .pre in
-    (pre .0, (pre .1 .0, ((at-grow .grow .ensures .laid .wide, omega arith), loop .loop .inv .4 .low)))
-
-word-at-requires : tie.Need-word-at-requires Inv-loop μ-loop
-word-at-requires c κs =
-    let at-grow = c .before .before .before .before .before .before .before .before in
-    (at-grow .grow .ensures .laid, (at-grow .before .before .before .before .loop .inv .4 .low, omega arith))
+    (pre .0, (pre .1 .0, (inv .4 .laid, (inv .4 .low, (inv .3, omega arith)))))
 
 xor-word-requires : tie.Need-xor-word-requires Inv-loop μ-loop
 xor-word-requires c κs = simp (length-take, length-drop) (omega arith)
 
 loop-again : tie.Need-loop-again Inv-loop μ-loop
 loop-again c =
-    let at-xor = c .before .before in
-    let at-word = at-xor .before .before in
-    let at-f = at-word .before .before .before in
-    let at-grow = at-f .before .before .before .before .before .before in
-    let turn = at-grow .before .before .before in
-    let l = turn .before .loop in
-    let start = turn .before .before .before .before .before .before .before in
+    let at-part = c .before .before .before in
+    let at-xor = at-part .before in
+    let at-turn = at-xor .before .before .before .before .before .before in
+    let inside = at-turn .before .before .before in
+    let l = inside .before .loop in
+    let start = inside .before .before .before .before .before .before .before in
     let σ : State = stateAt (start .args .run .now) 0 (start .args .start) in
     let j : ℕ = l .j in
-    let g = at-grow .grow .ensures in
-    let drawn = turn-word σ _ _ j _ (l .inv .4) _ _ _ g (at-word .word-at .ensures) in
+    let turned = at-turn .turn .ensures in
+    let drawn = turn-word σ _ _ j _ (l .inv .4) _ _ _ turned in
     let same : length (l .part) ≡ length (start .args .part .now) = l .inv .2 in
-    let room : j < length (start .args .part .now) / 4 = turn .loop-test .taken in (
+    let room : j < length (start .args .part .now) / 4 = inside .loop-test .taken in (
       omega arith,
       l .inv .1,
-      omega (arith, same),
-      g .summed,
-      turn-standing σ _ _ j _ (l .inv .4) _ _ _ g _ (at-f .f-at .ensures),
+      omega (arith, same, at-part .part .given),
+      turned .summed,
+      turn-standing σ _ _ j _ (l .inv .4) _ _ _ turned,
       turn-masked σ j (4 * j) (4 * j + 4) refl _ (l .part) _ (4 * (j + 1)) (omega arith) (omega (arith, same, room))
           (alone σ j (4 * j) (4 * j + 4) refl drawn (omega arith)) (at-xor .xor-word .ensures)
           ∙ l .inv .5,
@@ -95,4 +86,4 @@ returns c =
 pub mask-block-spec : {M : Type 1} → statement M
 mask-block-spec =
     tie.close
-    (tie.spec Inv-loop μ-loop sums-at-requires loop-holds grow-requires (λ c. omega arith) f-at-requires (λ c. omega arith) (λ c. omega arith) (λ c. omega arith) word-at-requires (λ c. omega arith) (λ c. omega arith) (λ c. omega arith) xor-word-requires (λ c. omega arith) (λ c. omega arith) loop-again rest-requires (λ c. omega arith) (λ c. omega arith) (λ c. omega arith) returns)
+    (tie.spec Inv-loop μ-loop sums-at-requires loop-holds turn-requires (λ c. omega arith) (λ c. omega arith) (λ c. omega arith) (λ c. omega arith) (λ c. omega arith) xor-word-requires (λ c. omega arith) (λ c. omega arith) loop-again rest-requires (λ c. omega arith) (λ c. omega arith) (λ c. omega arith) returns)

@@ -46,32 +46,24 @@ loop-holds c =
 sum-32-requires : tie.Need-sum-32-requires Inv-loop μ-loop
 sum-32-requires c κs = simp (length-take, length-drop) (omega (arith, c .before .loop-test .taken, c .before .before .loop .inv .2))
 
-grow-requires : tie.Need-grow-requires Inv-loop μ-loop
-grow-requires c κs =
+turn-requires : tie.Need-turn-requires Inv-loop μ-loop
+turn-requires c κs =
     let loop = c .before .before .before .before .before in
-    (loop .loop .inv .4 .laid, (loop .loop .inv .3, omega arith))
-
-word-at-requires : tie.Need-word-at-requires Inv-loop μ-loop
-word-at-requires c κs =
-    let at-grow = c .before .before .before .before .before .before in
-    (at-grow .grow .ensures .laid, (at-grow .before .before .before .before .before .before .loop .inv .4 .low, omega arith))
-
-f-at-requires : tie.Need-f-at-requires Inv-loop μ-loop
-f-at-requires c κs =
-    let at-grow = c .before .before .before .before .before .before .before .before in
-    let loop = at-grow .before .before .before .before .before .before in
+    let inv = loop .loop .inv in
     let pre = loop .before .before .before .before .before .before .before .pre in
-    (pre .0, (pre .1 .0, ((at-grow .grow .ensures .laid .wide, omega arith), loop .loop .inv .4 .low)))
+    (pre .0, (pre .1 .0, (inv .4 .laid, (inv .4 .low, (inv .3, omega arith)))))
 
 add-j : tie.Need-add-j Inv-loop μ-loop
-add-j c = let inside = c .before .before .before .before .before .before .before .before .before .before .before .before .before .before .before in omega (arith, inside .loop-test .taken, inside .before .loop .inv .1)
+add-j c =
+    let at-turn = c .before .before .before .before .before .before .before in
+    let inside = at-turn .before .before .before .before .before in
+    omega (arith, inside .loop-test .taken, inside .before .loop .inv .1)
 
 loop-again : tie.Need-loop-again Inv-loop μ-loop
 loop-again c =
-    let at-f = c .before in
-    let at-word = at-f .before .before in
-    let at-grow = at-word .before .before .before .before .before .before .before in
-    let at-sum = at-grow .before .before .before in
+    let at-key = c .before .before in
+    let at-turn = at-key .before .before .before .before .before in
+    let at-sum = at-turn .before .before .before in
     let inside = at-sum .before .before in
     let loop = inside .before in
     let l = loop .loop in
@@ -79,16 +71,16 @@ loop-again c =
     let a = start .args in
     let σ : State = stateAt (a .run .now) 0 (a .start .h) in
     let st : Tagging = idle σ (a .start .key) (a .start .tag) in
-    let g = at-grow .grow .ensures in (
+    let turned = at-turn .turn .ensures in (
       omega (arith, inside .loop-test .taken),
       l .inv .1,
       l .inv .2,
-      g .summed,
-      turn-standing σ _ _ (l .j) _ (l .inv .4) _ _ _ g _ (at-f .f-at .ensures),
-      ap (λ (x : ℕ). idle (after (l .j + 1) σ) x (l .tag ⊕ at-sum .sum-32 .result)) (c .joined .ensures)
+      turned .summed,
+      turn-standing σ _ _ (l .j) _ (l .inv .4) _ _ _ turned,
+      ap (λ (x : ℕ). idle (after (l .j + 1) σ) x (l .tag ⊕ at-sum .sum-32 .result)) (at-key .joined .ensures)
           ∙ fed-part σ st (a .part .now) (l .j) (l .key) (l .tag) _ _ (omega (arith, inside .loop-test .taken, l .inv .2)) (l .inv .5)
           (at-sum .sum-32 .ensures)
-          (turn-word σ _ _ (l .j) _ (l .inv .4) _ _ _ g (at-word .word-at .ensures)),
+          (turn-word σ _ _ (l .j) _ (l .inv .4) _ _ _ turned),
     )
 
 rest-requires : tie.Need-rest-requires Inv-loop μ-loop
@@ -117,4 +109,4 @@ returns c =
 pub words-32-spec : {M : Type 1} → statement M
 words-32-spec =
     tie.close
-    (tie.spec Inv-loop μ-loop sums-at-requires loop-holds (λ c. omega arith) (λ c. omega arith) (λ c. omega arith) (λ c. omega arith) (λ c. omega arith) sum-32-requires grow-requires (λ c. omega arith) word-at-requires (λ c. omega arith) f-at-requires (λ c. search needs) (λ c κs. search needs) add-j (λ c. omega arith) loop-again rest-requires (λ c. omega arith) (λ c. omega arith) returns)
+    (tie.spec Inv-loop μ-loop sums-at-requires loop-holds (λ c. omega arith) (λ c. omega arith) (λ c. omega arith) (λ c. omega arith) (λ c. omega arith) sum-32-requires turn-requires (λ c. search needs) (λ c κs. search needs) add-j (λ c. omega arith) loop-again rest-requires (λ c. omega arith) (λ c. omega arith) returns)
