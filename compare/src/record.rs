@@ -23,14 +23,49 @@ struct Answer {
 
 /// The text of a record: its fields in hexadecimal digits, spaces between them.
 pub fn line(input: &Input) -> String {
-    let mut fields = fields(input);
+    record(fields(input))
+}
+
+fn record(mut fields: Vec<Vec<u8>>) -> String {
     let length: usize = fields.iter().map(Vec::len).sum();
     assert!(length <= LONGEST);
     fields.insert(0, (length as u16).to_be_bytes().into());
     text(&fields)
 }
 
-/// The last line: a record with no bytes, so that a list cut short can be told.
+/// Records with one field of the answer altered, each field that a reader is to compare:
+/// it must find every one of them different. Of each kind of call the first that answers
+/// with bytes.
+pub fn altered(inputs: &[Input]) -> Vec<String> {
+    let mut lines = Vec::new();
+    let mut kinds = Vec::new();
+    for input in inputs {
+        let kind = op_and_width(input.call);
+        if kinds.contains(&kind) || answer(input).bytes.is_empty() {
+            continue;
+        }
+        kinds.push(kind);
+        for &field in compared(input.call) {
+            let mut fields = fields(input);
+            let at = fields.len() - field;
+            *fields[at].last_mut().expect("no empty field") ^= 1;
+            lines.push(record(fields));
+        }
+    }
+    lines
+}
+
+/// The fields of an answer that are compared, counted from the end of the record: the next
+/// word, the bytes, the words drawn, the refusal.
+fn compared(call: Call) -> &'static [usize] {
+    match call {
+        Call::Words(_) => &[1, 2, 3],
+        Call::Mask(..) => &[1, 2, 3, 4],
+        _ => &[2, 4],
+    }
+}
+
+/// The last line of a list: a record with no bytes, so that a list cut short can be told.
 pub fn end() -> String {
     text(&[vec![0, 0]])
 }

@@ -1,8 +1,8 @@
-//! Writes the crate's recorded answers to standard output.
+//! Writes the crate's recorded answers to standard output, and after them some that are altered.
 
 use std::io::{stdout, BufWriter, Write};
 
-use compare::record::{end, inputs, line};
+use compare::record::{altered, end, inputs, line};
 
 fn main() -> std::io::Result<()> {
     let mut out = BufWriter::new(stdout().lock());
@@ -11,6 +11,11 @@ fn main() -> std::io::Result<()> {
         writeln!(out, "{}", line(input))?;
     }
     writeln!(out, "{}", end())?;
-    eprintln!("{} records", inputs.len());
+    let altered = altered(&inputs);
+    for line in &altered {
+        writeln!(out, "{line}")?;
+    }
+    writeln!(out, "{}", end())?;
+    eprintln!("{} records, {} altered", inputs.len(), altered.len());
     out.flush()
 }

@@ -1,4 +1,5 @@
-// The crate's recorded answers (standard input) held to the public calls: how many, and how many differ.
+// The crate's recorded answers (standard input) held to the public calls: how many, and how many differ. After them some that are
+// altered, which must all differ.
 mod calls;
 mod record;
 
@@ -68,9 +69,11 @@ fn is_digit(c: u8) -> bool {
     c <= b'f'
 }
 
+// Records run, how many of them differ, and the place after the list.
 struct Tally {
     records: u64,
     differ: u64,
+    end: usize,
 }
 
 // 1 for a record whose answer differs, and else 0.
@@ -89,25 +92,43 @@ fn replay(bytes: &[u8]) -> Tally {
         let at = bytes.len() - left;
         let n = record::short_at(part(bytes, at, 2), 0);
         if n == 0 {
-            return Tally { records, differ };
+            return Tally {
+                records,
+                differ,
+                end: at + 2,
+            };
         }
         if left - 2 < n {
-            return Tally { records, differ };
+            return Tally {
+                records,
+                differ,
+                end: at,
+            };
         }
         differ += difference(part(bytes, at + 2, n));
         records += 1;
         left -= n + 2;
     }
-    Tally { records, differ }
+    Tally {
+        records,
+        differ,
+        end: bytes.len(),
+    }
+}
+
+fn tell(t: Tally, what: &[u8]) {
+    io::print_decimal(STDOUT_FILENO, t.records);
+    io::write_all(STDOUT_FILENO, what);
+    io::print_decimal(STDOUT_FILENO, t.differ);
+    io::write_all(STDOUT_FILENO, b" different\n");
 }
 
 fn main() {
     let mut text = [0u8; 262144];
     let got = io::read_full(STDIN_FILENO, &mut text);
     let n = pack(&mut text, got);
-    let t = replay(part(&text, 0, n));
-    io::print_decimal(STDOUT_FILENO, t.records);
-    io::write_all(STDOUT_FILENO, b" recorded answers, ");
-    io::print_decimal(STDOUT_FILENO, t.differ);
-    io::write_all(STDOUT_FILENO, b" different\n");
+    let recorded = replay(part(&text, 0, n));
+    tell(recorded, b" recorded answers, ");
+    let altered = replay(part(part(&text, 0, n), recorded.end, n));
+    tell(altered, b" altered answers, ");
 }
