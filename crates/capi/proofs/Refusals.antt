@@ -5,14 +5,14 @@ use mathlib.Core.Bool.{Bool, true, false}
 use mathlib.Core.List.{List}
 use mathlib.Core.Path.{_≡_, refl}
 use Prim.Native.Nat.{ℕ, _*_, _^_, _<_}
-use Rattle.arrays.proofs.Packing.{state-array, stored-array}
-use Rattle.arrays.specs.Arrays.{arrayOf, regrouped, stateIn, storedIn, tagArrayOf}
+use Rattle.capi_arrays.proofs.Packing.{state-array, stored-array}
+use Rattle.capi_arrays.specs.Arrays.{arrayOf, regrouped, stateIn, storedIn, tagArrayOf}
 use Rattle.capi.specs.Generators.{drawArray, maskArray, startArray, wordsArray}
 use Rattle.capi.specs.Tags.{ClosingArray, tagArray}
 use Rattle.keystream.specs.Draws.{drawOutcome, fillOutcome}
 use Rattle.mac.specs.Calls.{closing, refusedStart, updateOutcome}
 use Rattle.mask.specs.Outcome.{Outcome, checked}
-use Rattle.registers.specs.Stored.{zeroStored}
+use Rattle.mac_registers.specs.Stored.{zeroStored}
 use Rattle.standard.specs.Bits.{bitAt, bitOf, window}
 use Rattle.standard.specs.Generator.{_⟨_⟩, wellFormed, zeros}
 use Rattle.standard.specs.Loading.{listed}

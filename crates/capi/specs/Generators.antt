@@ -1,7 +1,7 @@
 -- What the C functions of generators give: the inner call's outcome, its state as an array.
 use mathlib.Core.List.{List}
 use Prim.Native.Nat.{ℕ}
-use Rattle.arrays.specs.Arrays.{arrayOf}
+use Rattle.capi_arrays.specs.Arrays.{arrayOf}
 use Rattle.keystream.specs.Draws.{DrawOutcome, FillOutcome}
 use Rattle.keystream.specs.Starts.{StartOutcome}
 use Rattle.mask.specs.Outcome.{Outcome}

@@ -1,7 +1,7 @@
 -- What the C functions of tags give: the inner call's outcome, its state as an array and its tag as two words.
 use mathlib.Core.List.{List, [], _∷_}
 use Prim.Native.Nat.{ℕ}
-use Rattle.arrays.specs.Arrays.{tagArrayOf}
+use Rattle.capi_arrays.specs.Arrays.{tagArrayOf}
 use Rattle.mac.specs.Calls.{Closing, Once, Outcome}
 
 -- a start or an update

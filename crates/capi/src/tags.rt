@@ -1,28 +1,28 @@
 // Tags: starts, updates, closings and one-shots, as in generators.rt.
 ghost use mathlib.Core.Path.{_≡_};
-ghost use Rattle.arrays.specs.Arrays.{storedIn};
+ghost use Rattle.capi_arrays.specs.Arrays.{storedIn};
 ghost use Rattle.capi.specs.Tags.{closingArray, tagArray, twoClosing, twoOnce};
 ghost use Rattle.keystream.specs.Starts.{startNumber};
 ghost use Rattle.mac.specs.Calls.{finishOutcome-128, finishOutcome-256, formed-128, onceOutcome-128, onceOutcome-256, onceOutcome-EIA3, onceTold-128, startOutcome-128, startOutcome-256, startOutcome-EIA3, updateNumber, updateOutcome};
-ghost use Rattle.registers.specs.Stored.{formed, storedOf};
-use answers::number_128;
-use answers::number_256;
-use answers::once_number_128;
-use answers::once_number_256;
-use answers::once_word;
-use answers::once_words;
-use answers::start_number;
-use answers::tag_word;
-use answers::tag_words;
-use answers::update_number;
-use arrays::tag_array_of;
-use arrays::tag_state_in;
+ghost use Rattle.mac_registers.specs.Stored.{formed, storedOf};
+use capi_answers::number_128;
+use capi_answers::number_256;
+use capi_answers::once_number_128;
+use capi_answers::once_number_256;
+use capi_answers::once_word;
+use capi_answers::once_words;
+use capi_answers::start_number;
+use capi_answers::tag_word;
+use capi_answers::tag_words;
+use capi_answers::update_number;
+use capi_arrays::tag_array_of;
+use capi_arrays::tag_state_in;
 use keystream::StartAnswer;
 use mac::Mac128;
 use mac::Mac256;
 use mac::Once128;
 use mac::UpdateAnswer;
-use registers::TagState;
+use mac_registers::TagState;
 
 // What a start hands back goes into the array: zeros, where it was refused.
 fn put_start(state: &mut [u64; 19], answer: StartAnswer, s: TagState) -> u32

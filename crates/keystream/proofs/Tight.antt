@@ -29,10 +29,10 @@ use Rattle.keystream.proofs.zuc256.new_with_d as with-d
 use Rattle.keystream.proofs.zuc256.new_with_d.Kinds as with-d-kinds
 use Rattle.keystream.proofs.zuc256.new_with_d.Reads as with-d-reads
 use Rattle.keystream.specs.declared.DrawAnswer.{DrawAnswer}
-use Rattle.keystream.specs.declared.DrawAnswer.the-variants.{Word, Malformed}
+use Rattle.keystream.specs.declared.DrawAnswer.the-variants as draw-answer
 use Rattle.keystream.specs.declared.Drew.{Drew}
 use Rattle.keystream.specs.declared.FillAnswer.{FillAnswer}
-use Rattle.keystream.specs.declared.FillAnswer.the-variants.{Filled, Unfilled}
+use Rattle.keystream.specs.declared.FillAnswer.the-variants as fill-answer
 use Rattle.keystream.specs.declared.Start.{Start}
 use Rattle.keystream.specs.declared.StartAnswer.{StartAnswer}
 use Rattle.keystream.specs.declared.StartAnswer.the-variants.{Started, BadWidth, BadKey, BadIv}
@@ -54,22 +54,22 @@ start-back BadKey = refl
 start-back BadIv = refl
 
 drawAnswer : ℕ → ℕ → DrawAnswer
-drawAnswer zero w = Word w
-drawAnswer (suc n) w = Malformed
+drawAnswer zero w = draw-answer.Word w
+drawAnswer (suc n) w = draw-answer.BadState
 
 draw-back : (a : DrawAnswer) → drawAnswer (drawNumber a) (drawWord a) ≡ a
 unfolding drawAnswer
-draw-back (Word w) = refl
-draw-back Malformed = refl
+draw-back (draw-answer.Word w) = refl
+draw-back draw-answer.BadState = refl
 
 fillAnswer : ℕ → FillAnswer
-fillAnswer zero = Filled
-fillAnswer (suc n) = Unfilled
+fillAnswer zero = fill-answer.Filled
+fillAnswer (suc n) = fill-answer.BadState
 
 fill-back : (a : FillAnswer) → fillAnswer (fillNumber a) ≡ a
 unfolding fillAnswer
-fill-back Filled = refl
-fill-back Unfilled = refl
+fill-back fill-answer.Filled = refl
+fill-back fill-answer.BadState = refl
 
 -- what is told tells what is returned
 pub start-tight : (r r′ : Start) → startTold r ≡ startTold r′ → r ≡ r′

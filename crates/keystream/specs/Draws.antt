@@ -3,10 +3,10 @@ use lib.ListN.{length}
 use mathlib.Core.List.{List}
 use Prim.Native.Nat.{ℕ}
 use Rattle.keystream.specs.declared.DrawAnswer.{DrawAnswer}
-use Rattle.keystream.specs.declared.DrawAnswer.the-variants.{Word, Malformed}
+use Rattle.keystream.specs.declared.DrawAnswer.the-variants as draw-answer
 use Rattle.keystream.specs.declared.Drew.{Drew}
 use Rattle.keystream.specs.declared.FillAnswer.{FillAnswer}
-use Rattle.keystream.specs.declared.FillAnswer.the-variants.{Filled, Unfilled}
+use Rattle.keystream.specs.declared.FillAnswer.the-variants as fill-answer
 use Rattle.keystream.specs.declared.Filling.{Filling}
 use Rattle.standard.specs.Generator.{State, after, next, wellFormed, word, wordAt}
 use Rattle.standard.specs.Loading.{listed}
@@ -15,12 +15,12 @@ use Rattle.zuc.specs.Reading.{stateOf}
 
 -- a draw: document 01's number of each case, its word, and all that a call gives
 abbrev pub drawNumber : DrawAnswer → ℕ
-drawNumber (Word w) = 0
-drawNumber Malformed = 4
+drawNumber (draw-answer.Word w) = 0
+drawNumber draw-answer.BadState = 4
 
 abbrev pub drawWord : DrawAnswer → ℕ
-drawWord (Word w) = w
-drawWord Malformed = 0
+drawWord (draw-answer.Word w) = w
+drawWord draw-answer.BadState = 0
 
 pub record DrawOutcome : Type 0 where
   pub number : ℕ
@@ -37,8 +37,8 @@ drawOutcome σ =
 
 -- a buffer of words filled, one draw each
 abbrev pub fillNumber : FillAnswer → ℕ
-fillNumber Filled = 0
-fillNumber Unfilled = 4
+fillNumber fill-answer.Filled = 0
+fillNumber fill-answer.BadState = 4
 
 pub record FillOutcome : Type 0 where
   pub number : ℕ

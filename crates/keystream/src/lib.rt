@@ -29,7 +29,7 @@ pub struct Start {
 // A draw's answer: the word, or refusal 4.
 pub enum DrawAnswer {
     Word(u32),
-    Malformed,
+    BadState,
 }
 
 // A draw: its answer, and the state after it, the caller's where it was refused.
@@ -41,7 +41,7 @@ pub struct Drew {
 // The answer of a fill: done, or refusal 4.
 pub enum FillAnswer {
     Filled,
-    Unfilled,
+    BadState,
 }
 
 // A fill: its answer, and the state after it, the caller's where it was refused.
@@ -84,7 +84,7 @@ pub fn generate(state: Zuc) -> Drew
 {
     if !zuc::is_well_formed(state) {
         return Drew {
-            answer: DrawAnswer::Malformed,
+            answer: DrawAnswer::BadState,
             state,
         };
     }
@@ -113,13 +113,13 @@ pub fn fill(state: Zuc, buffer: &mut [u32]) -> Filling
 {
     if !zuc::is_well_formed(state) {
         return Filling {
-            answer: FillAnswer::Unfilled,
+            answer: FillAnswer::BadState,
             state,
         };
     }
     let t0 = S0;
     let t1 = S1;
-    let next = bulk::words_into(&t0, &t1, state, buffer);
+    let next = zuc_bulk::words_into(&t0, &t1, state, buffer);
     Filling {
         answer: FillAnswer::Filled,
         state: next,

@@ -16,5 +16,5 @@ pub fn new(key: &[u8], iv: &[u8]) -> Start
     if iv.len() != 16 {
         return refused(StartAnswer::BadIv);
     }
-    started_from(loading::zuc128::load(key, iv))
+    started_from(zuc_loading::zuc128::load(key, iv))
 }

@@ -1,7 +1,7 @@
 // ZUC-256: the rows of constants and the starts.
 ghost use mathlib.Core.Path.{_≡_};
 ghost use Rattle.keystream.specs.Starts.{startTold, start₂₅₆, startTag₂₅₆};
-ghost use Rattle.loading.specs.Rows.{Row};
+ghost use Rattle.zuc_loading.specs.Rows.{Row};
 ghost use Rattle.standard.specs.Loading.{d-keystream};
 use super::Start;
 use super::StartAnswer;
@@ -96,7 +96,7 @@ fn start(d: [u8; 16], key: &[u8], iv: &[u8]) -> Start
     if iv.len() != 23 {
         return refused(StartAnswer::BadIv);
     }
-    started_from(loading::zuc256::load(d, key, iv))
+    started_from(zuc_loading::zuc256::load(d, key, iv))
 }
 
 // A generator of the ZUC-256 keystream, or refusal 2 for a key that is not 32 bytes and 3 for an IV that is not 23.

@@ -12,11 +12,11 @@ use Rattle.standard.specs.Loading.{d-tag₁₂₈, d-tag₃₂, d-tag₆₄, lo
 use Rattle.standard.specs.Notation.{if_then_else_}
 use Rattle.standard.proofs.Generator.{sound-started}
 use Rattle.keystream.specs.Starts.{StartOutcome, require, rowOf, startTag₂₅₆, start₁₂₈, start₂₅₆}
-use Rattle.loading.specs.Rows.{Row}
-use Rattle.loading.proofs.Loaded.{Bytes, cells-128, cells-256}
-use Rattle.loading.proofs.Rows.{d-tag₁₂₈-row, d-tag₃₂-row, d-tag₆₄-row}
-use Rattle.registers.proofs.Packed.{width-is}
-use Rattle.registers.specs.Stored.{Width}
+use Rattle.zuc_loading.specs.Rows.{Row}
+use Rattle.zuc_loading.proofs.Loaded.{Bytes, cells-128, cells-256}
+use Rattle.zuc_loading.proofs.Rows.{d-tag₁₂₈-row, d-tag₃₂-row, d-tag₆₄-row}
+use Rattle.mac_registers.proofs.Packed.{width-is}
+use Rattle.mac_registers.specs.Stored.{Width}
 use Rattle.mac.specs.Calls.{Ready}
 
 ready-require : (test : Bool) (n : ℕ) (o : StartOutcome) → Ready o → Ready (require test (suc n) o)

@@ -11,13 +11,13 @@ use Rattle.standard.specs.Integrity.{drawnAfter-EIA3, drawnAfter-ZUC256, drawnB
 use Rattle.standard.specs.Loading.{load₁₂₈, load₂₅₆}
 use Rattle.standard.proofs.Generator.{sound-started}
 use Rattle.keystream.specs.Starts.{rowOf}
-use Rattle.registers.specs.Stored.{Held, Stored, Width, formed, packed, taggingOf}
-use Rattle.registers.specs.Tagging.{Tagging, begun-EIA3, begun-ZUC256, ended, extraState, leftOver, updated}
-use Rattle.registers.proofs.Packed.{and-both, good-EIA3, good-ZUC256, good-updated, well-formed, width-whole}
-use Rattle.tagging.proofs.Rule.{drawn-EIA3, drawn-ZUC256, drawn-closing-EIA3, drawn-closing-ZUC256}
+use Rattle.mac_registers.specs.Stored.{Held, Stored, Width, formed, packed, taggingOf}
+use Rattle.mac_registers.specs.Tagging.{Tagging, begun-EIA3, begun-ZUC256, ended, extraState, leftOver, updated}
+use Rattle.mac_registers.proofs.Packed.{and-both, good-EIA3, good-ZUC256, good-updated, well-formed, width-whole}
+use Rattle.mac_tagging.proofs.Rule.{drawn-EIA3, drawn-ZUC256, drawn-closing-EIA3, drawn-closing-ZUC256}
 use Rattle.mac.specs.Calls.{formed-128, updateOutcome}
 use Rattle.mac.specs.Runs.{Updates, joined}
-use Rattle.loading.proofs.Loaded.{Bytes, cells-128, cells-256}
+use Rattle.zuc_loading.proofs.Loaded.{Bytes, cells-128, cells-256}
 use Rattle.mac.proofs.Accepted.{row-of}
 use Rattle.mac.proofs.Runs.{at-state, updates-are}
 

@@ -20,10 +20,10 @@ use Rattle.keystream.proofs.StartAnswer.{the-type}
 use Rattle.keystream.specs.declared.StartAnswer.{StartAnswer}
 use Rattle.keystream.specs.declared.StartAnswer.the-variants.{Started, BadWidth, BadKey, BadIv}
 use Rattle.keystream.specs.Starts.{StartOutcome, startNumber, require, rowOf, startTag₂₅₆, start₁₂₈, start₂₅₆}
-use Rattle.registers.specs.Stored.{Stored, Width, formed, tagWords, zeroStored}
-use Rattle.registers.specs.Tagging.{begun-EIA3, begun-ZUC256, closed-EIA3, closed-ZUC256, updated}
-use Rattle.registers.proofs.Packed.{width-is, width-whole}
-use Rattle.tagging.proofs.Rule.{rule-EIA3, rule-ZUC256}
+use Rattle.mac_registers.specs.Stored.{Stored, Width, formed, tagWords, zeroStored}
+use Rattle.mac_registers.specs.Tagging.{begun-EIA3, begun-ZUC256, closed-EIA3, closed-ZUC256, updated}
+use Rattle.mac_registers.proofs.Packed.{width-is, width-whole}
+use Rattle.mac_tagging.proofs.Rule.{rule-EIA3, rule-ZUC256}
 use Rattle.mac.specs.Calls.{Once, Outcome, checked, closing, formed-128, ifStarted, noWords, once-from-128, once-from-256, onceOutcome-128, onceOutcome-256, onceOutcome-EIA3, refusedStart}
 
 -- an answer that a `match` found to be another than `Started`

@@ -12,10 +12,10 @@ use Rattle.standard.specs.Generator.{started}
 use Rattle.standard.specs.Loading.{load₁₂₈, load₂₅₆}
 use Rattle.standard.specs.Integrity.{IV-EIA3, isWidth}
 use Rattle.keystream.specs.Starts.{StartOutcome, require, rowOf, startTag₂₅₆, start₁₂₈, start₂₅₆}
-use Rattle.registers.specs.Stored.{Stored, Width, packed, taggingOf, zeroStored}
-use Rattle.registers.specs.Tagging.{Tagging, begun-EIA3, begun-ZUC256, updated}
-use Rattle.registers.proofs.Cutting.{updated-append}
-use Rattle.registers.proofs.Packed.{read-back}
+use Rattle.mac_registers.specs.Stored.{Stored, Width, packed, taggingOf, zeroStored}
+use Rattle.mac_registers.specs.Tagging.{Tagging, begun-EIA3, begun-ZUC256, updated}
+use Rattle.mac_registers.proofs.Cutting.{updated-append}
+use Rattle.mac_registers.proofs.Packed.{read-back}
 use Rattle.mac.specs.Calls.{Closing, Outcome, begun-128, begun-256, closing, ifStarted, refusedStart, startOutcome-128, startOutcome-256, startOutcome-EIA3, updateOutcome}
 use Rattle.mac.proofs.Accepted.{accepted-width}
 use Rattle.mac.specs.Runs.{Updates, joined, more, none}

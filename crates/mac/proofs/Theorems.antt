@@ -13,10 +13,10 @@ use Rattle.standard.specs.Integrity.{IV-EIA3, T, tag-EIA3, tag-ZUC256}
 use Rattle.standard.specs.Loading.{load₁₂₈, load₂₅₆}
 use Rattle.standard.proofs.Linear.{EIA3-three, EIA3-two, M-xor₃, ZUC256-three, ZUC256-two, xorBytes}
 use Rattle.keystream.specs.Starts.{rowOf}
-use Rattle.registers.specs.Stored.{Width, formed, packed, tagOf, tagWords, taggingOf}
-use Rattle.registers.specs.Tagging.{begun-EIA3, begun-ZUC256, closed-EIA3, closed-ZUC256, updated}
-use Rattle.registers.proofs.Packed.{tag-back, width-whole}
-use Rattle.tagging.proofs.Rule.{rule-EIA3, rule-ZUC256}
+use Rattle.mac_registers.specs.Stored.{Width, formed, packed, tagOf, tagWords, taggingOf}
+use Rattle.mac_registers.specs.Tagging.{begun-EIA3, begun-ZUC256, closed-EIA3, closed-ZUC256, updated}
+use Rattle.mac_registers.proofs.Packed.{tag-back, width-whole}
+use Rattle.mac_tagging.proofs.Rule.{rule-EIA3, rule-ZUC256}
 use Rattle.mac.specs.Calls.{Closing, Outcome, closing, finishOutcome-128, finishOutcome-256, formed-128, noWords, startOutcome-128, startOutcome-256, startOutcome-EIA3}
 use Rattle.mac.specs.Runs.{Tagged-128, Tagged-256, joined}
 use Rattle.mac.proofs.Outcomes.{stream-is}

@@ -12,8 +12,8 @@ use Rattle.zuc.specs.Reading.{stateOf}
 use Rattle.keystream.specs.declared.StartAnswer.{StartAnswer}
 use Rattle.keystream.specs.Starts.{startNumber}
 use Rattle.keystream.proofs.Tight.{start-tight}
-use Rattle.registers.specs.declared.TagState.{TagState}
-use Rattle.registers.specs.Stored.{storedOf}
+use Rattle.mac_registers.specs.declared.TagState.{TagState}
+use Rattle.mac_registers.specs.Stored.{storedOf}
 use Rattle.mac.proofs.zuc128.new as zuc128-new
 use Rattle.mac.proofs.zuc128.new.Kinds as zuc128-new-kinds
 use Rattle.mac.proofs.zuc128.new.Reads as zuc128-new-reads
@@ -59,7 +59,7 @@ use Rattle.mac.specs.declared.Tag256.the-variants as tag-256-variants
 use Rattle.mac.specs.declared.Update128.{Update128}
 use Rattle.mac.specs.declared.Update256.{Update256}
 use Rattle.mac.specs.declared.UpdateAnswer.{UpdateAnswer}
-use Rattle.mac.specs.declared.UpdateAnswer.the-variants.{Done, Malformed}
+use Rattle.mac.specs.declared.UpdateAnswer.the-variants.{Done, BadState}
 use Rattle.mac.specs.Calls.{Closing, Once, Outcome, finishTold-128, finishTold-256, onceTold-128, onceTold-256, startTold-128, startTold-256, tagList, tagNumber-128, tagNumber-256, tagWord, updateNumber, updateTold-128, updateTold-256}
 
 -- a struct is known by its reading
@@ -81,12 +81,12 @@ start-answer z a b e =
 
 updateAnswer : ℕ → UpdateAnswer
 updateAnswer zero = Done
-updateAnswer (suc n) = Malformed
+updateAnswer (suc n) = BadState
 
 update-back : (a : UpdateAnswer) → updateAnswer (updateNumber a) ≡ a
 unfolding updateAnswer
 update-back Done = refl
-update-back Malformed = refl
+update-back BadState = refl
 
 tagAnswer-128 : ℕ → ℕ → Tag128
 tagAnswer-128 zero x = tag-128-variants.Tag x
@@ -94,13 +94,13 @@ tagAnswer-128 (suc zero) x = tag-128-variants.BadState
 tagAnswer-128 (suc (suc zero)) x = tag-128-variants.BadState
 tagAnswer-128 (suc (suc (suc zero))) x = tag-128-variants.BadState
 tagAnswer-128 (suc (suc (suc (suc zero)))) x = tag-128-variants.BadState
-tagAnswer-128 (suc (suc (suc (suc (suc n))))) x = tag-128-variants.TooLong
+tagAnswer-128 (suc (suc (suc (suc (suc n))))) x = tag-128-variants.BadBits
 
 tag-back-128 : (a : Tag128) → tagAnswer-128 (tagNumber-128 a) (tagWord a) ≡ a
 unfolding tagAnswer-128
 tag-back-128 (tag-128-variants.Tag x) = refl
 tag-back-128 tag-128-variants.BadState = refl
-tag-back-128 tag-128-variants.TooLong = refl
+tag-back-128 tag-128-variants.BadBits = refl
 
 tagAnswer-256 : ℕ → List ℕ → Tag256
 tagAnswer-256 zero x = tag-256-variants.Tag (x ⟨ 0 ⟩) (x ⟨ 1 ⟩)
@@ -108,34 +108,34 @@ tagAnswer-256 (suc zero) x = tag-256-variants.BadState
 tagAnswer-256 (suc (suc zero)) x = tag-256-variants.BadState
 tagAnswer-256 (suc (suc (suc zero))) x = tag-256-variants.BadState
 tagAnswer-256 (suc (suc (suc (suc zero)))) x = tag-256-variants.BadState
-tagAnswer-256 (suc (suc (suc (suc (suc n))))) x = tag-256-variants.TooLong
+tagAnswer-256 (suc (suc (suc (suc (suc n))))) x = tag-256-variants.BadBits
 
 tag-back-256 : (a : Tag256) → tagAnswer-256 (tagNumber-256 a) (tagList a) ≡ a
 unfolding tagAnswer-256
 tag-back-256 (tag-256-variants.Tag x y) = refl
 tag-back-256 tag-256-variants.BadState = refl
-tag-back-256 tag-256-variants.TooLong = refl
+tag-back-256 tag-256-variants.BadBits = refl
 
 onceAnswer-128 : ℕ → ℕ → Once128
 onceAnswer-128 zero x = once-128-variants.Tag x
 onceAnswer-128 (suc zero) x = once-128-variants.BadKey
 onceAnswer-128 (suc (suc zero)) x = once-128-variants.BadKey
 onceAnswer-128 (suc (suc (suc zero))) x = once-128-variants.BadIv
-onceAnswer-128 (suc (suc (suc (suc n)))) x = once-128-variants.TooLong
+onceAnswer-128 (suc (suc (suc (suc n)))) x = once-128-variants.BadBits
 
 once-back-128 : (a : Once128) → onceAnswer-128 (onceTold-128 a .number) (onceTold-128 a .tag) ≡ a
 unfolding onceAnswer-128
 once-back-128 (once-128-variants.Tag x) = refl
 once-back-128 once-128-variants.BadKey = refl
 once-back-128 once-128-variants.BadIv = refl
-once-back-128 once-128-variants.TooLong = refl
+once-back-128 once-128-variants.BadBits = refl
 
 onceAnswer-256 : ℕ → List ℕ → Once256
 onceAnswer-256 zero x = once-256-variants.Tag (x ⟨ 0 ⟩) (x ⟨ 1 ⟩)
 onceAnswer-256 (suc zero) x = once-256-variants.BadWidth
 onceAnswer-256 (suc (suc zero)) x = once-256-variants.BadKey
 onceAnswer-256 (suc (suc (suc zero))) x = once-256-variants.BadIv
-onceAnswer-256 (suc (suc (suc (suc n)))) x = once-256-variants.TooLong
+onceAnswer-256 (suc (suc (suc (suc n)))) x = once-256-variants.BadBits
 
 once-back-256 : (a : Once256) → onceAnswer-256 (onceTold-256 a .number) (onceTold-256 a .tag) ≡ a
 unfolding onceAnswer-256
@@ -143,7 +143,7 @@ once-back-256 (once-256-variants.Tag x y) = refl
 once-back-256 once-256-variants.BadWidth = refl
 once-back-256 once-256-variants.BadKey = refl
 once-back-256 once-256-variants.BadIv = refl
-once-back-256 once-256-variants.TooLong = refl
+once-back-256 once-256-variants.BadBits = refl
 
 -- what is told tells what is returned
 pub start-128 : (r r′ : Start128) → startTold-128 r ≡ startTold-128 r′ → r ≡ r′

@@ -10,8 +10,8 @@ use Rattle.standard.specs.Generator.{Cells, keystream}
 use Rattle.standard.specs.Integrity.{IV-EIA3, tag-EIA3, tag-ZUC256, isWidth}
 use Rattle.standard.specs.Loading.{load₁₂₈, load₂₅₆}
 use Rattle.keystream.specs.Starts.{StartOutcome, rowOf, startNumber, startTag₂₅₆, start₁₂₈}
-use Rattle.registers.specs.Stored.{Stored, formed, packed, storedOf, tagWords, taggingOf, zeroStored}
-use Rattle.registers.specs.Tagging.{begun-EIA3, begun-ZUC256, closed-EIA3, closed-ZUC256, updated}
+use Rattle.mac_registers.specs.Stored.{Stored, formed, packed, storedOf, tagWords, taggingOf, zeroStored}
+use Rattle.mac_registers.specs.Tagging.{begun-EIA3, begun-ZUC256, closed-EIA3, closed-ZUC256, updated}
 use Rattle.mac.specs.declared.Finish128.{Finish128}
 use Rattle.mac.specs.declared.Finish256.{Finish256}
 use Rattle.mac.specs.declared.Once128.{Once128}
@@ -28,7 +28,7 @@ use Rattle.mac.specs.declared.Update.{Update}
 use Rattle.mac.specs.declared.Update128.{Update128}
 use Rattle.mac.specs.declared.Update256.{Update256}
 use Rattle.mac.specs.declared.UpdateAnswer.{UpdateAnswer}
-use Rattle.mac.specs.declared.UpdateAnswer.the-variants.{Done, Malformed}
+use Rattle.mac.specs.declared.UpdateAnswer.the-variants.{Done, BadState}
 
 -- Document 01: a ZUC-128 or EIA3 state is malformed also where its width is not 4
 unfoldable pub formed-128 : Stored → Bool
@@ -74,7 +74,7 @@ Ready o = o .number ≡ 0 → Cells (o .state .cells)
 
 abbrev pub updateNumber : UpdateAnswer → ℕ
 updateNumber Done = 0
-updateNumber Malformed = 4
+updateNumber BadState = 4
 
 abbrev pub updateTold : Update → Outcome
 updateTold r = record { number = updateNumber (r .answer); state = storedOf (r .state) }
@@ -99,12 +99,12 @@ pub record Closing (Tag : Type 0) : Type 0 where
 abbrev pub tagNumber-128 : Tag128 → ℕ
 tagNumber-128 (tag-128.Tag x) = 0
 tagNumber-128 tag-128.BadState = 4
-tagNumber-128 tag-128.TooLong = 5
+tagNumber-128 tag-128.BadBits = 5
 
 abbrev pub tagWord : Tag128 → ℕ
 tagWord (tag-128.Tag x) = x
 tagWord tag-128.BadState = 0
-tagWord tag-128.TooLong = 0
+tagWord tag-128.BadBits = 0
 
 abbrev pub finishTold-128 : Finish128 → Closing ℕ
 finishTold-128 r = record { number = tagNumber-128 (r .answer); tag = tagWord (r .answer); state = storedOf (r .mac .state) }
@@ -122,7 +122,7 @@ finishOutcome-128 s tail l = closing 0 (formed-128 s) s tail l (closed-EIA3 (tag
 abbrev pub tagNumber-256 : Tag256 → ℕ
 tagNumber-256 (tag-256.Tag x y) = 0
 tagNumber-256 tag-256.BadState = 4
-tagNumber-256 tag-256.TooLong = 5
+tagNumber-256 tag-256.BadBits = 5
 
 abbrev pub noWords : List ℕ
 noWords = 0 ∷ 0 ∷ []
@@ -130,7 +130,7 @@ noWords = 0 ∷ 0 ∷ []
 abbrev pub tagList : Tag256 → List ℕ
 tagList (tag-256.Tag x y) = x ∷ y ∷ []
 tagList tag-256.BadState = noWords
-tagList tag-256.TooLong = noWords
+tagList tag-256.BadBits = noWords
 
 abbrev pub finishTold-256 : Finish256 → Closing (List ℕ)
 finishTold-256 r = record { number = tagNumber-256 (r .answer); tag = tagList (r .answer); state = storedOf (r .mac .state) }
@@ -147,7 +147,7 @@ abbrev pub onceTold-128 : Once128 → Once ℕ
 onceTold-128 (once-128.Tag x) = record { number = 0; tag = x }
 onceTold-128 once-128.BadKey = record { number = 2; tag = 0 }
 onceTold-128 once-128.BadIv = record { number = 3; tag = 0 }
-onceTold-128 once-128.TooLong = record { number = 5; tag = 0 }
+onceTold-128 once-128.BadBits = record { number = 5; tag = 0 }
 
 -- refusals by number, lowest first; else the standard's tag of the message over the keystream of what was loaded
 abbrev pub checked : {Tag : Type 0} → Bool → ℕ → Tag → Once Tag → Once Tag
@@ -170,7 +170,7 @@ onceTold-256 (once-256.Tag x y) = record { number = 0; tag = x ∷ y ∷ [] }
 onceTold-256 once-256.BadWidth = record { number = 1; tag = noWords }
 onceTold-256 once-256.BadKey = record { number = 2; tag = noWords }
 onceTold-256 once-256.BadIv = record { number = 3; tag = noWords }
-onceTold-256 once-256.TooLong = record { number = 5; tag = noWords }
+onceTold-256 once-256.BadBits = record { number = 5; tag = noWords }
 
 unfoldable pub onceOutcome-256 : ℕ → List ℕ → List ℕ → List ℕ → ℕ → Once (List ℕ)
 onceOutcome-256 width key iv message l =

@@ -3,14 +3,14 @@ ghost use mathlib.Core.Bool.{true};
 ghost use mathlib.Core.Path.{_≡_};
 ghost use Rattle.keystream.specs.Starts.{startTold};
 ghost use Rattle.mac.specs.Calls.{Ready, begun-128, formed-128, once-from-128, onceTold-128, startTold-128, updateOutcome, updateTold};
-ghost use Rattle.registers.specs.Stored.{Held, storedOf, zeroStored};
+ghost use Rattle.mac_registers.specs.Stored.{Held, storedOf, zeroStored};
 use keystream::Start;
 use keystream::StartAnswer;
-use registers::TagState;
-use registers::forms::is_formed;
-use registers::forms::zero_state;
-use tagging::closing::close_128;
-use tagging::updates::begin_128;
+use mac_registers::TagState;
+use mac_registers::forms::is_formed;
+use mac_registers::forms::zero_state;
+use mac_tagging::closing::close_128;
+use mac_tagging::updates::begin_128;
 use words::bits_fit;
 use zuc::boxes::S0;
 use zuc::boxes::S1;
@@ -42,7 +42,7 @@ pub struct Start256 {
 // An update's answer: 0, or refusal 4. Beside it the state after it, the caller's where it was refused.
 pub enum UpdateAnswer {
     Done,
-    Malformed,
+    BadState,
 }
 
 pub struct Update {
@@ -64,7 +64,7 @@ pub struct Update256 {
 pub enum Tag128 {
     Tag(u32),
     BadState,
-    TooLong,
+    BadBits,
 }
 
 pub struct Finish128 {
@@ -76,7 +76,7 @@ pub struct Finish128 {
 pub enum Tag256 {
     Tag(u64, u64),
     BadState,
-    TooLong,
+    BadBits,
 }
 
 pub struct Finish256 {
@@ -89,7 +89,7 @@ pub enum Once128 {
     Tag(u32),
     BadKey,
     BadIv,
-    TooLong,
+    BadBits,
 }
 
 pub enum Once256 {
@@ -97,7 +97,7 @@ pub enum Once256 {
     BadWidth,
     BadKey,
     BadIv,
-    TooLong,
+    BadBits,
 }
 
 // Whether a state is well formed, and of 4 bytes.
@@ -121,13 +121,13 @@ fn update_state(ok: bool, state: TagState, message: &[u8]) -> Update
 {
     if !ok {
         return Update {
-            answer: UpdateAnswer::Malformed,
+            answer: UpdateAnswer::BadState,
             state,
         };
     }
     let t0 = S0;
     let t1 = S1;
-    let next = tagging::updates::update(&t0, &t1, state, message);
+    let next = mac_tagging::updates::update(&t0, &t1, state, message);
     Update {
         answer: UpdateAnswer::Done,
         state: next,
@@ -175,7 +175,7 @@ fn tag_from(start: Start, message: &[u8], l: usize) -> Once128
     match answer {
         StartAnswer::Started => {
             if !bits_fit(l, message.len()) {
-                return Once128::TooLong;
+                return Once128::BadBits;
             }
             let t0 = S0;
             let t1 = S1;

@@ -1,7 +1,7 @@
 // ZUC-128 tags. An EIA3 tag is updated and closed by the same calls.
 ghost use mathlib.Core.Path.{_≡_};
 ghost use Rattle.mac.specs.Calls.{finishOutcome-128, finishTold-128, formed-128, onceOutcome-128, onceTold-128, startOutcome-128, startTold-128, updateOutcome, updateTold-128};
-ghost use Rattle.registers.specs.Stored.{storedOf};
+ghost use Rattle.mac_registers.specs.Stored.{storedOf};
 use super::Finish128;
 use super::Mac128;
 use super::Once128;
@@ -12,8 +12,8 @@ use super::begin_from;
 use super::is_formed_128;
 use super::tag_from;
 use super::update_state;
-use registers::forms::zero_state;
-use tagging::closing::close_128;
+use mac_registers::forms::zero_state;
+use mac_tagging::closing::close_128;
 use words::bits_fit;
 use zuc::boxes::S0;
 use zuc::boxes::S1;
@@ -53,7 +53,7 @@ pub fn finish(mac: Mac128, tail: &[u8], l: usize) -> Finish128
     }
     if !bits_fit(l, tail.len()) {
         return Finish128 {
-            answer: Tag128::TooLong,
+            answer: Tag128::BadBits,
             mac,
         };
     }

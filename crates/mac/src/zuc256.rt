@@ -1,7 +1,7 @@
 // ZUC-256 tags of 4, 8 and 16 bytes.
 ghost use mathlib.Core.Path.{_≡_};
 ghost use Rattle.mac.specs.Calls.{finishOutcome-256, finishTold-256, onceOutcome-256, onceTold-256, startOutcome-256, startTold-256, updateOutcome, updateTold-256};
-ghost use Rattle.registers.specs.Stored.{formed, storedOf, zeroStored};
+ghost use Rattle.mac_registers.specs.Stored.{formed, storedOf, zeroStored};
 use super::Finish256;
 use super::Mac256;
 use super::Once256;
@@ -10,10 +10,10 @@ use super::Tag256;
 use super::Update256;
 use super::update_state;
 use keystream::StartAnswer;
-use registers::forms::is_formed;
-use registers::forms::zero_state;
-use tagging::closing::close_256;
-use tagging::updates::begin_256;
+use mac_registers::forms::is_formed;
+use mac_registers::forms::zero_state;
+use mac_tagging::closing::close_256;
+use mac_tagging::updates::begin_256;
 use words::bits_fit;
 use zuc::boxes::S0;
 use zuc::boxes::S1;
@@ -78,7 +78,7 @@ pub fn finish(mac: Mac256, tail: &[u8], l: usize) -> Finish256
     }
     if !bits_fit(l, tail.len()) {
         return Finish256 {
-            answer: Tag256::TooLong,
+            answer: Tag256::BadBits,
             mac,
         };
     }
@@ -102,7 +102,7 @@ pub fn compute(width: usize, key: &[u8], iv: &[u8], message: &[u8], l: usize) ->
     match answer {
         StartAnswer::Started => {
             if !bits_fit(l, message.len()) {
-                return Once256::TooLong;
+                return Once256::BadBits;
             }
             let t0 = S0;
             let t1 = S1;

@@ -11,7 +11,7 @@ use Prim.Native.Nat.{ℕ, zero, suc}
 use lib.Dec.{eqb}
 use Rattle.standard.specs.Notation.{if_then_else_}
 use Rattle.mask.specs.declared.MaskAnswer.{MaskAnswer}
-use Rattle.mask.specs.declared.MaskAnswer.the-variants.{Done, Malformed, TooLong}
+use Rattle.mask.specs.declared.MaskAnswer.the-variants.{Done, BadState, BadBits}
 use Rattle.mask.specs.declared.Masked.{Masked}
 use Rattle.mask.specs.Outcome.{told, numberOf, countOf}
 use Rattle.mask.proofs.mask_crate.Reads as crate-reads
@@ -24,13 +24,13 @@ use Rattle.mask.proofs.mask_clean as clean-call
 -- the answer that a number and a count stand for
 answerOf : ℕ → ℕ → MaskAnswer
 answerOf zero count = Done count
-answerOf (suc n) count = if eqb n 3 then Malformed else TooLong
+answerOf (suc n) count = if eqb n 3 then BadState else BadBits
 
 answer-back : (a : MaskAnswer) → answerOf (numberOf a) (countOf a) ≡ a
 unfolding answerOf
 answer-back (Done n) = refl
-answer-back Malformed = refl
-answer-back TooLong = refl
+answer-back BadState = refl
+answer-back BadBits = refl
 
 -- what is told tells what is returned
 told-all : (r r′ : Masked) (b b′ : List ℕ) → told r b ≡ told r′ b′ → (r ≡ r′) × (b ≡ b′)

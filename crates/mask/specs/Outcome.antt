@@ -9,19 +9,19 @@ use Rattle.standard.specs.Generator.{State, wellFormed, after, wordAt}
 use Rattle.standard.specs.Notation.{if_then_else_}
 use Rattle.zuc.specs.Reading.{stateOf}
 use Rattle.mask.specs.declared.MaskAnswer.{MaskAnswer}
-use Rattle.mask.specs.declared.MaskAnswer.the-variants.{Done, Malformed, TooLong}
+use Rattle.mask.specs.declared.MaskAnswer.the-variants.{Done, BadState, BadBits}
 use Rattle.mask.specs.declared.Masked.{Masked}
 
 -- document 01's number of each case, and the count of words drawn
 abbrev pub numberOf : MaskAnswer → ℕ
 numberOf (Done n) = 0
-numberOf Malformed = 4
-numberOf TooLong = 5
+numberOf BadState = 4
+numberOf BadBits = 5
 
 abbrev pub countOf : MaskAnswer → ℕ
 countOf (Done n) = n
-countOf Malformed = 0
-countOf TooLong = 0
+countOf BadState = 0
+countOf BadBits = 0
 
 -- all that a call gives: that number, the count, the state handed back, and the buffer
 pub record Outcome : Type 0 where

@@ -6,7 +6,7 @@ ghost use Rattle.mask.specs.Clearing.{zeroed, cleared};
 ghost use Rattle.mask.specs.Outcome.{told, outcomeTo, crateOutcome, cleanOutcome};
 ghost use Rattle.standard.specs.Confidentiality.{eachFrom, keepHigh};
 ghost use Rattle.zuc.specs.Reading.{stateOf};
-use masking::mask_all;
+use mask_bulk::mask_all;
 use zuc::Zuc;
 use zuc::boxes::S0;
 use zuc::boxes::S1;
@@ -14,8 +14,8 @@ use zuc::boxes::S1;
 // What a call answers: the words drawn, or why it was refused.
 pub enum MaskAnswer {
     Done(usize),
-    Malformed,
-    TooLong,
+    BadState,
+    BadBits,
 }
 
 // The answer, and the state handed back.
@@ -64,14 +64,14 @@ fn mask(start: Zuc, buf: &mut [u8], bits: usize, kept: usize) -> Masked
 {
     if !zuc::is_well_formed(start) {
         return Masked {
-            answer: MaskAnswer::Malformed,
+            answer: MaskAnswer::BadState,
             state: start,
         };
     }
     let n = buf.len();
     if !words::bits_fit(bits, n) {
         return Masked {
-            answer: MaskAnswer::TooLong,
+            answer: MaskAnswer::BadBits,
             state: start,
         };
     }

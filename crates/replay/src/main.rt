@@ -6,9 +6,9 @@ mod record;
 ghost use Prim.Native.Nat.{_≤_};
 use libc::STDIN_FILENO;
 use libc::STDOUT_FILENO;
-use parts::digit;
-use parts::least;
-use parts::part;
+use vectors_parts::digit;
+use vectors_parts::least;
+use vectors_parts::part;
 
 // A digit read: a first one waits (16 stands for none), a second one makes a byte whole.
 struct Nibble {

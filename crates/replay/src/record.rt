@@ -1,6 +1,6 @@
 // A recorded call: where its fields stand in the record, and what the crate answered. compare/README.md says the format.
 ghost use Prim.Native.Nat.{_<_};
-use parts::byte_at;
+use vectors_parts::byte_at;
 
 pub struct Field {
     pub at: usize,

@@ -1,6 +1,6 @@
 // The published vectors and the refusals of document 01, run through the public calls and shown as a table.
 fn main() {
-    parts::table::head();
-    stream_vectors::show();
-    tag_vectors::show();
+    vectors_parts::table::head();
+    vectors_streams::show();
+    vectors_tags::show();
 }

@@ -4,7 +4,7 @@ use borrow.Author.Needs.{needs}
 use Rattle.standard.specs.Boxes.{S₀-table, S₁-table}
 use Rattle.keystream.specs.declared.StartAnswer.{StartAnswer}
 use Rattle.keystream.specs.Starts.{startNumber, startTold}
-use Rattle.registers.specs.Stored.{storedOf}
+use Rattle.mac_registers.specs.Stored.{storedOf}
 use Rattle.mac.proofs.Outcomes.{refused-as, started-as}
 use Rattle.mac.proofs.begin_from.Statement.{statement}
 use Rattle.mac.proofs.begin_from.Tie as tie

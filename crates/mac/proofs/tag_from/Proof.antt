@@ -10,9 +10,9 @@ use denote.Ref.{now}
 use Rattle.standard.specs.Boxes.{S₀-table, S₁-table}
 use Rattle.keystream.specs.Starts.{startNumber}
 use Rattle.zuc.specs.Reading.{stateOf}
-use Rattle.registers.specs.Stored.{Stored, packed}
-use Rattle.registers.specs.Tagging.{closed-EIA3}
-use Rattle.registers.proofs.Packed.{at-packed, good-EIA3, held-as}
+use Rattle.mac_registers.specs.Stored.{Stored, packed}
+use Rattle.mac_registers.specs.Tagging.{closed-EIA3}
+use Rattle.mac_registers.proofs.Packed.{at-packed, good-EIA3, held-as}
 use Rattle.mac.proofs.tag_from.Statement.{statement}
 use Rattle.mac.proofs.tag_from.Tie as tie
 

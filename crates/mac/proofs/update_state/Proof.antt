@@ -2,7 +2,7 @@
 use mathlib.Core.Path.{refl, ap}
 use borrow.Author.Tests.{not-false, not-true}
 use Rattle.standard.specs.Boxes.{S₀-table, S₁-table}
-use Rattle.registers.specs.Stored.{Stored}
+use Rattle.mac_registers.specs.Stored.{Stored}
 use Rattle.mac.specs.Calls.{updateOutcome}
 use Rattle.mac.proofs.update_state.Statement.{statement}
 use Rattle.mac.proofs.update_state.Tie as tie

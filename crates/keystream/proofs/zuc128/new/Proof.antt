@@ -1,6 +1,6 @@
 -- `new` is the ZUC-128 start: each refusal by its test, and else start-up of the loaded cells.
 use denote.Ref.{now}
-use Rattle.loading.proofs.Loaded.{cells-128}
+use Rattle.zuc_loading.proofs.Loaded.{cells-128}
 use Rattle.keystream.specs.Starts.{start₁₂₈}
 use Rattle.keystream.proofs.Starting.{accepted, bad-iv, bad-key, cells-as}
 use borrow.Author.Needs.{needs}

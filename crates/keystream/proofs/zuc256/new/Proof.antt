@@ -1,5 +1,5 @@
 -- `new` is the ZUC-256 start with the keystream's row.
-use Rattle.loading.proofs.Rows.{d-keystream-row}
+use Rattle.zuc_loading.proofs.Rows.{d-keystream-row}
 use Rattle.standard.specs.Loading.{d-keystream}
 use Rattle.keystream.proofs.zuc256.new.Statement.{statement}
 use Rattle.keystream.proofs.zuc256.new.Tie as tie

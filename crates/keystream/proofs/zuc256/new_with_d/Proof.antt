@@ -3,7 +3,7 @@ use borrow.Author.Tests.{ne-eqb}
 use mathlib.Core.List.{List}
 use mathlib.Core.Path.{_≡_, _∙_, ap, sym}
 use Prim.Native.Nat.{ℕ}
-use Rattle.loading.proofs.Rows.{d-tag₁₂₈-row, d-tag₃₂-row, d-tag₆₄-row}
+use Rattle.zuc_loading.proofs.Rows.{d-tag₁₂₈-row, d-tag₃₂-row, d-tag₆₄-row}
 use Rattle.keystream.specs.Starts.{startTag₂₅₆}
 use Rattle.standard.specs.Loading.{d-tag₁₂₈, d-tag₃₂, d-tag₆₄}
 use borrow.Author.Needs.{needs}

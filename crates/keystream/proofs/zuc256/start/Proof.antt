@@ -1,6 +1,6 @@
 -- `start` is the ZUC-256 start with a row: each refusal by its test, and else start-up of the loaded cells.
 use denote.Ref.{now}
-use Rattle.loading.proofs.Loaded.{cells-256}
+use Rattle.zuc_loading.proofs.Loaded.{cells-256}
 use Rattle.keystream.specs.Starts.{start₂₅₆}
 use Rattle.keystream.proofs.Starting.{accepted, bad-iv, bad-key, cells-as}
 use borrow.Author.Needs.{needs}

@@ -8,8 +8,8 @@ use borrow.Author.Needs.{needs}
 use borrow.Author.Tests.{leb-true, not-false, not-true}
 use denote.Ref.{now}
 use Rattle.standard.specs.Boxes.{S₀-table, S₁-table}
-use Rattle.registers.specs.Stored.{storedOf, taggingOf}
-use Rattle.registers.specs.Tagging.{closed-EIA3}
+use Rattle.mac_registers.specs.Stored.{storedOf, taggingOf}
+use Rattle.mac_registers.specs.Tagging.{closed-EIA3}
 use Rattle.mac.specs.Calls.{finishOutcome-128, formed-128}
 use Rattle.mac.proofs.Outcomes.{bad-state, closed, formed-four, too-long}
 use Rattle.mac.proofs.zuc128.finish.Statement.{statement}

@@ -10,9 +10,9 @@ use Rattle.standard.specs.Boxes.{S₀-table, S₁-table}
 use Rattle.standard.specs.Generator.{Cells}
 use Rattle.zuc.specs.Reading.{stateOf}
 use Rattle.keystream.specs.Starts.{StartOutcome, startNumber, startTold}
-use Rattle.registers.specs.Stored.{Width, tagWords}
-use Rattle.registers.specs.Tagging.{closed-ZUC256}
-use Rattle.registers.proofs.Packed.{at-packed, good-ZUC256, held-as}
+use Rattle.mac_registers.specs.Stored.{Width, tagWords}
+use Rattle.mac_registers.specs.Tagging.{closed-ZUC256}
+use Rattle.mac_registers.proofs.Packed.{at-packed, good-ZUC256, held-as}
 use Rattle.mac.specs.Calls.{Ready, once-from-256, onceOutcome-256}
 use Rattle.mac.proofs.Accepted.{accepted-width, ready-256}
 use Rattle.mac.proofs.Outcomes.{once-256-is, spelled-tag}

@@ -8,8 +8,8 @@ use borrow.Author.Needs.{needs}
 use borrow.Author.Tests.{leb-true, not-false, not-true}
 use denote.Ref.{now}
 use Rattle.standard.specs.Boxes.{S₀-table, S₁-table}
-use Rattle.registers.specs.Stored.{formed, storedOf, tagWords, taggingOf}
-use Rattle.registers.specs.Tagging.{closed-ZUC256}
+use Rattle.mac_registers.specs.Stored.{formed, storedOf, tagWords, taggingOf}
+use Rattle.mac_registers.specs.Tagging.{closed-ZUC256}
 use Rattle.mac.specs.Calls.{finishOutcome-256, noWords}
 use Rattle.mac.proofs.Outcomes.{bad-state, closed, spelled-tag, too-long}
 use Rattle.mac.proofs.zuc256.finish.Statement.{statement}

@@ -5,7 +5,7 @@ use denote.Ref.{now}
 use Rattle.standard.specs.Boxes.{S₀-table, S₁-table}
 use Rattle.keystream.specs.declared.StartAnswer.{StartAnswer}
 use Rattle.keystream.specs.Starts.{StartOutcome, startNumber, startTag₂₅₆, startTold}
-use Rattle.registers.specs.Stored.{storedOf}
+use Rattle.mac_registers.specs.Stored.{storedOf}
 use Rattle.mac.specs.Calls.{Ready, begun-256, startOutcome-256}
 use Rattle.mac.proofs.Accepted.{accepted-width, ready-256}
 use Rattle.mac.proofs.Outcomes.{refused-as, started-as}

@@ -3,7 +3,7 @@ use mathlib.Core.Bool.{Bool}
 use mathlib.Core.Path.{_∙_, ap}
 use borrow.Author.Needs.{needs}
 use denote.Ref.{now}
-use Rattle.registers.specs.Stored.{storedOf}
+use Rattle.mac_registers.specs.Stored.{storedOf}
 use Rattle.mac.specs.Calls.{updateOutcome}
 use Rattle.mac.proofs.zuc256.update.Statement.{statement}
 use Rattle.mac.proofs.zuc256.update.Tie as tie

@@ -1,0 +1,212 @@
+-- Each width's words: the key pair moved on, the tag with a block's sum, and fresh words, as the code has them and as numbers.
+use mathlib.Core.Path.{_≡_, refl, sym, ap, ap₂, _∙_, subst}
+use mathlib.Core.List.{List, [], _∷_}
+use mathlib.Core.Logic.{⊎-elim}
+use Prim.Native.Nat.{ℕ, _+_, _*_, _/_, _%_, _^_, _<_, _≤_}
+use native.Mathlib.Omega.{arith}
+use native.Mathlib.Nat.{add-zero, lt-of-lt-of-le, mod-eq-of-lt, mul-mod-left, pow-le-pow-right, zero-add}
+use lib.Arith.{digits-lt}
+use lib.Bits.{xor-block, xor-lt}
+use lib.Pow.{high, low, mod-pow-add, shl-shr, shr-lt}
+use Rattle.standard.specs.Notation.{_⊕_}
+use Rattle.standard.specs.Bits.{M, bitOf, window, z}
+use Rattle.standard.specs.Generator.{State, _⟨_⟩, after, next, wordAt}
+use Rattle.standard.specs.Integrity.{T}
+use Rattle.standard.proofs.Generator.{wordAt-lt}
+use Rattle.standard.proofs.Linear.{M-lt}
+use Rattle.standard.proofs.Sum.{sum-ext}
+use Rattle.standard.proofs.Window.{bit-window, window-cell, window-cells, window-lt, window-split}
+use borrow.Author.Tests.{ne-eqb}
+use Rattle.mac_registers.specs.Lookup.{between, summed}
+use Rattle.mac_registers.specs.Stored.{Width, _‖₁₂₈_, _‖₆₄_, fresh, keyOf, keyWords, tagOf, tagWords}
+use Rattle.mac_registers.proofs.Message.{z-lt}
+
+-- a key pair moved up by t bits is its low half on high
+pub moved-up : (t key : ℕ) → key * 2 ^ t % 2 ^ (t + t) ≡ key % 2 ^ t * 2 ^ t
+moved-up t key =
+    mod-pow-add (key * 2 ^ t) t t
+    ∙ ap₂ (λ (x y : ℕ). x % 2 ^ t * 2 ^ t + y) (shl-shr key t) (mul-mod-left key (2 ^ t))
+    ∙ add-zero (key % 2 ^ t * 2 ^ t)
+
+-- a key pair moved up by half, in its halves
+moved-low : (t hi lo : ℕ) → lo < 2 ^ t → (hi * 2 ^ t + lo) * 2 ^ t % 2 ^ (t + t) ≡ lo * 2 ^ t
+moved-low t hi lo h = moved-up t (hi * 2 ^ t + lo) ∙ ap (λ (x : ℕ). x * 2 ^ t) (low hi t h)
+
+-- words out of the numbers that they make
+pub words-8 : (a b : ℕ) → b < 2 ^ 64 → keyWords 8 (a ‖₆₄ b) ≡ a ∷ b ∷ 0 ∷ 0 ∷ []
+unfolding keyWords
+words-8 a b h = ap₂ (λ (x y : ℕ). x ∷ y ∷ 0 ∷ 0 ∷ []) (high a 64 h) (low a 64 h)
+
+pub words-16 : (a b c d : ℕ) → b < 2 ^ 64 → c < 2 ^ 64 → d < 2 ^ 64 → keyWords 16 ((a ‖₆₄ b) ‖₁₂₈ (c ‖₆₄ d)) ≡ a ∷ b ∷ c ∷ d ∷ []
+unfolding keyWords
+words-16 a b c d hb hc hd =
+    ap₂ (λ (x y : ℕ). x / 2 ^ 64 ∷ x % 2 ^ 64 ∷ y / 2 ^ 64 ∷ y % 2 ^ 64 ∷ []) (high (a ‖₆₄ b) 128 (digits-lt hc hd)) (low (a ‖₆₄ b) 128 (digits-lt hc hd))
+    ∙ ap₂ (λ (x y : ℕ). x ∷ y ∷ (c ‖₆₄ d) / 2 ^ 64 ∷ (c ‖₆₄ d) % 2 ^ 64 ∷ []) (high a 64 hb) (low a 64 hb)
+    ∙ ap₂ (λ (x y : ℕ). a ∷ b ∷ x ∷ y ∷ []) (high c 64 hd) (low c 64 hd)
+
+pub tag-words-16 : (a b : ℕ) → b < 2 ^ 64 → tagWords 16 (a ‖₆₄ b) ≡ a ∷ b ∷ []
+unfolding tagWords
+tag-words-16 a b h = ap₂ (λ (x y : ℕ). x ∷ y ∷ []) (high a 64 h) (low a 64 h)
+
+-- the key pair moved on
+module _ (w : ℕ) (k words : List ℕ) where
+  abbrev Moved : List ℕ → Type 0
+  Moved r = r ≡ keyWords w (keyOf w k * 2 ^ (w * 8) % 2 ^ (w * 8 + w * 8) + tagOf w words)
+
+  pub moved-4 : w ≡ 4 → Moved ((k ⟨ 0 ⟩ % 2 ^ 32 * 2 ^ 32 + words ⟨ 0 ⟩) ∷ 0 ∷ 0 ∷ 0 ∷ [])
+  unfolding keyWords keyOf tagOf
+  moved-4 e = rw e (ap (λ (x : ℕ). (x + words ⟨ 0 ⟩) ∷ 0 ∷ 0 ∷ 0 ∷ []) (sym (moved-up 32 (k ⟨ 0 ⟩))))
+
+  pub moved-8 : w ≡ 8 → k ⟨ 1 ⟩ < 2 ^ 64 → words ⟨ 0 ⟩ < 2 ^ 64 → Moved (k ⟨ 1 ⟩ ∷ words ⟨ 0 ⟩ ∷ 0 ∷ 0 ∷ [])
+  unfolding keyOf tagOf
+  moved-8 e h h′ =
+      rw e (sym (ap (λ (x : ℕ). keyWords 8 (x + words ⟨ 0 ⟩)) (moved-low 64 (k ⟨ 0 ⟩) (k ⟨ 1 ⟩) h) ∙ words-8 (k ⟨ 1 ⟩) (words ⟨ 0 ⟩) h′))
+
+  pub moved-16 : w ≡ 16 → k ⟨ 2 ⟩ < 2 ^ 64 → k ⟨ 3 ⟩ < 2 ^ 64 → words ⟨ 0 ⟩ < 2 ^ 64 → words ⟨ 1 ⟩ < 2 ^ 64
+      → Moved (k ⟨ 2 ⟩ ∷ k ⟨ 3 ⟩ ∷ words ⟨ 0 ⟩ ∷ words ⟨ 1 ⟩ ∷ [])
+  unfolding keyOf tagOf
+  moved-16 e h2 h3 h h′ =
+      rw e
+      (sym
+      (ap (λ (x : ℕ). keyWords 16 (x + (words ⟨ 0 ⟩ ‖₆₄ words ⟨ 1 ⟩))) (moved-low 128 (k ⟨ 0 ⟩ ‖₆₄ k ⟨ 1 ⟩) (k ⟨ 2 ⟩ ‖₆₄ k ⟨ 3 ⟩) (digits-lt h2 h3))
+      ∙ words-16 (k ⟨ 2 ⟩) (k ⟨ 3 ⟩) (words ⟨ 0 ⟩) (words ⟨ 1 ⟩) h3 h h′))
+
+-- a block's sum, its bits read from the block as a number
+pub block-bits : (t key : ℕ) (block : List ℕ) → summed t key (window (M block) 0 t) ≡ T t (bitOf (t + t) key) 0 (M block) t
+unfolding summed
+block-bits t key block =
+    sum-ext t (bitOf (t + t) key) (bitOf (t + t) key) 0 0 (bitOf t (window (M block) 0 t)) (M block) t (λ j h. refl)
+    (λ j h. bit-window (M block) (M-lt block) 0 t j h ∙ ap (M block) (zero-add j))
+
+-- the tag with a block's sum
+module _ (w : ℕ) (k t block : List ℕ) where
+  abbrev Summed : List ℕ → Type 0
+  Summed r = r ≡ tagWords w (tagOf w t ⊕ T (w * 8) (bitOf (w * 8 + w * 8) (keyOf w k)) 0 (M block) (w * 8))
+
+  pub summed-4 : w ≡ 4 → (sum : ℕ) → sum ≡ summed 32 (k ⟨ 0 ⟩) (window (M block) 0 32) → Summed ((t ⟨ 0 ⟩ ⊕ sum) ∷ 0 ∷ [])
+  unfolding tagWords tagOf keyOf
+  summed-4 e sum s = rw e (ap (λ (x : ℕ). (t ⟨ 0 ⟩ ⊕ x) ∷ 0 ∷ []) (s ∙ block-bits 32 (k ⟨ 0 ⟩) block))
+
+  pub summed-8 : w ≡ 8 → (sum : ℕ) → sum ≡ summed 64 (k ⟨ 0 ⟩ ‖₆₄ k ⟨ 1 ⟩) (window (M block) 0 64) → Summed ((t ⟨ 0 ⟩ ⊕ sum) ∷ 0 ∷ [])
+  unfolding tagWords tagOf keyOf
+  summed-8 e sum s = rw e (ap (λ (x : ℕ). (t ⟨ 0 ⟩ ⊕ x) ∷ 0 ∷ []) (s ∙ block-bits 64 (k ⟨ 0 ⟩ ‖₆₄ k ⟨ 1 ⟩) block))
+
+  pub summed-16 : w ≡ 16 → (hi lo : ℕ) → t ⟨ 1 ⟩ < 2 ^ 64 → lo < 2 ^ 64
+      → hi ‖₆₄ lo ≡ summed 128 ((k ⟨ 0 ⟩ ‖₆₄ k ⟨ 1 ⟩) ‖₁₂₈ (k ⟨ 2 ⟩ ‖₆₄ k ⟨ 3 ⟩)) (window (M block) 0 128)
+      → Summed ((t ⟨ 0 ⟩ ⊕ hi) ∷ (t ⟨ 1 ⟩ ⊕ lo) ∷ [])
+  unfolding tagOf keyOf
+  summed-16 e hi lo h h′ s =
+      rw e
+      (sym
+      (ap (λ (x : ℕ). tagWords 16 ((t ⟨ 0 ⟩ ‖₆₄ t ⟨ 1 ⟩) ⊕ x)) (sym (s ∙ block-bits 128 ((k ⟨ 0 ⟩ ‖₆₄ k ⟨ 1 ⟩) ‖₁₂₈ (k ⟨ 2 ⟩ ‖₆₄ k ⟨ 3 ⟩)) block))
+      ∙ ap (tagWords 16) (xor-block 64 (t ⟨ 0 ⟩) hi (t ⟨ 1 ⟩) lo h h′)
+      ∙ tag-words-16 (t ⟨ 0 ⟩ ⊕ hi) (t ⟨ 1 ⟩ ⊕ lo) (xor-lt 64 (t ⟨ 1 ⟩) lo h h′)))
+
+-- a number in two words moved up by 32 bits, and a word after it
+shifted : (a b c : ℕ) → (a ‖₆₄ b) < 2 ^ 96 → b < 2 ^ 64 → between a b ‖₆₄ (b % 2 ^ 32 * 2 ^ 32 + c) ≡ (a ‖₆₄ b) * 2 ^ 32 + c
+shifted a b c small hb =
+    ap (λ (x : ℕ). (x * 2 ^ 32 + b / 2 ^ 32) * 2 ^ 64 + (b % 2 ^ 32 * 2 ^ 32 + c)) (mod-eq-of-lt high-small)
+    ∙ regroup (a * 2 ^ 32 + b / 2 ^ 32) (b % 2 ^ 32) c
+    ∙ ap (λ (x : ℕ). x * 2 ^ 32 + c) whole
+  where
+    high-small : a < 2 ^ 32
+    high-small = subst (λ (x : ℕ). x < 2 ^ 32) (high a 64 hb) (shr-lt 32 64 small)
+
+    whole : (a * 2 ^ 32 + b / 2 ^ 32) * 2 ^ 32 + b % 2 ^ 32 ≡ a ‖₆₄ b
+    whole = omega arith
+
+    regroup : (u v x : ℕ) → u * 2 ^ 64 + (v * 2 ^ 32 + x) ≡ (u * 2 ^ 32 + v) * 2 ^ 32 + x
+    regroup u v x = omega arith
+
+-- fresh words: one more word in a number of 128 bits, and what the first w/4 words make
+module _ (σ : State) where
+  abbrev Z : ℕ → ℕ
+  Z = z (wordAt σ)
+
+  words-small : (hi lo j : ℕ) → hi ‖₆₄ lo ≡ window Z 0 (j * 32) → (hi ‖₆₄ lo) < 2 ^ (j * 32)
+  words-small hi lo j e = rw e (window-lt Z (z-lt (wordAt σ)) 0 (j * 32))
+
+  pub words-none : 0 ‖₆₄ 0 ≡ window Z 0 (0 * 32)
+  unfolding window
+  words-none = refl
+
+  pub words-more : (hi lo w j : ℕ) → j < 4 → lo < 2 ^ 64 → w ≡ wordAt σ j → hi ‖₆₄ lo ≡ window Z 0 (j * 32)
+      → between hi lo ‖₆₄ (lo % 2 ^ 32 * 2 ^ 32 + w) ≡ window Z 0 ((j + 1) * 32)
+  unfolding z
+  words-more hi lo w j h hl ew e =
+      shifted hi lo w (lt-of-lt-of-le (words-small hi lo j e) (pow-le-pow-right {n = 2} (omega arith) most)) hl
+      ∙ ap₂ (λ (x y : ℕ). x * 2 ^ 32 + y) e (ew ∙ ap (wordAt σ) (sym (zero-add j)))
+      ∙ sym (window-cells 32 (omega arith) (wordAt σ) 0 j (wordAt-lt σ (0 + j)))
+      ∙ ap (window Z 0) next
+    where
+      next : j * 32 + 32 ≡ (j + 1) * 32
+      next = omega arith
+
+      most : j * 32 ≤ 96
+      most = omega arith
+
+  module _ (w hi lo : ℕ) (state : State) (es : state ≡ after (w / 4) σ) (e : hi ‖₆₄ lo ≡ window Z 0 (w / 4 * 32)) (hl : lo < 2 ^ 64) where
+    pub fresh-wide : w ≡ 16 → record { words = hi ∷ lo ∷ []; state = state } ≡ fresh w σ
+    unfolding fresh
+    fresh-wide f =
+        λ i. record {
+          words = (sym (tag-words-16 hi lo hl) ∙ ap₂ tagWords (sym f) (e ∙ ap (window Z 0) bits)) i;
+          state = es i;
+        }
+      where
+        bits : w / 4 * 32 ≡ w * 8
+        bits = omega arith
+
+    pub fresh-narrow : Width w → (w ≡ 16 → ⊥) → record { words = lo ∷ 0 ∷ []; state = state } ≡ fresh w σ
+    unfolding fresh tagWords
+    fresh-narrow v not =
+        λ i. record { words = (ap (λ (x : ℕ). x ∷ 0 ∷ []) (low-is ∙ e ∙ ap (window Z 0) bits) ∙ sym spelled) i; state = es i }
+      where
+        at-most : w / 4 * 32 ≤ 64
+        at-most = ⊎-elim (λ f. omega arith) (λ o. ⊎-elim (λ f. omega arith) (λ f. absurd (not f)) o) v
+
+        small : (hi ‖₆₄ lo) < 2 ^ 64
+        small = lt-of-lt-of-le (words-small hi lo (w / 4) e) (pow-le-pow-right {n = 2} (omega arith) at-most)
+
+        spelled : tagWords w (window Z 0 (w * 8)) ≡ window Z 0 (w * 8) ∷ 0 ∷ []
+        spelled = rw (ne-eqb w 16 not) refl
+
+        low-is : lo ≡ hi ‖₆₄ lo
+        low-is = omega (arith, small)
+
+        bits : w / 4 * 32 ≡ w * 8
+        bits = ⊎-elim (λ f. omega arith) (λ o. ⊎-elim (λ f. omega arith) (λ f. omega arith) o) v
+
+-- the third width, where the others are ruled out
+pub is-16 : (w : ℕ) → Width w → (w ≡ 4 → ⊥) → (w ≡ 8 → ⊥) → w ≡ 16
+is-16 w h not4 not8 = ⊎-elim (λ e. absurd (not4 e)) (λ o. ⊎-elim (λ e. absurd (not8 e)) (λ e. e) o) h
+
+-- four bytes as one word, and two words as one
+pub bytes-32 : (m : List ℕ) (k : ℕ) → ((i : ℕ) → m ⟨ i ⟩ < 2 ^ 8)
+    → ((m ⟨ k ⟩ * 2 ^ 8 + m ⟨ k + 1 ⟩) * 2 ^ 8 + m ⟨ k + 2 ⟩) * 2 ^ 8 + m ⟨ k + 3 ⟩ ≡ window (M m) (k * 8) 32
+unfolding M window
+bytes-32 m k h =
+    sym
+    (window-cells 8 (omega arith) f k 3 (h (k + 3))
+    ∙ ap (λ (x : ℕ). x * 2 ^ 8 + m ⟨ k + 3 ⟩)
+    (window-cells 8 (omega arith) f k 2 (h (k + 2))
+    ∙ ap (λ (x : ℕ). x * 2 ^ 8 + m ⟨ k + 2 ⟩)
+    (window-cells 8 (omega arith) f k 1 (h (k + 1)) ∙ ap (λ (x : ℕ). x * 2 ^ 8 + m ⟨ k + 1 ⟩) (window-cell 8 (omega arith) f k (h k)))))
+  where
+    f : ℕ → ℕ
+    f j = m ⟨ j ⟩
+
+pub bytes-64 : (m : List ℕ) (k : ℕ) → window (M m) (k * 8) 32 * 2 ^ 32 + window (M m) ((k + 4) * 8) 32 ≡ window (M m) (k * 8) 64
+bytes-64 m k =
+    sym (window-split (M m) (k * 8) 32 32 ∙ ap (λ (x : ℕ). window (M m) (k * 8) 32 * 2 ^ 32 + window (M m) x 32) place)
+  where
+    place : k * 8 + 32 ≡ (k + 4) * 8
+    place = omega arith
+
+-- the halves of eight bytes
+pub halves-64 : (m : List ℕ) (k : ℕ)
+    → (window (M m) (k * 8) 32 ≡ window (M m) (k * 8) 64 / 2 ^ 32) × (window (M m) ((k + 4) * 8) 32 ≡ window (M m) (k * 8) 64 % 2 ^ 32)
+halves-64 m k = (omega (arith, bytes-64 m k, small), omega (arith, bytes-64 m k, small))
+  where
+    small : window (M m) ((k + 4) * 8) 32 < 2 ^ 32
+    small = window-lt (M m) (M-lt m) ((k + 4) * 8) 32

@@ -1,0 +1,13 @@
+-- `registers::forms::zero_state` meets its contract: every field is zero.
+use mathlib.Core.Path.{refl}
+use Rattle.standard.specs.Generator.{zeros}
+use Rattle.mac_registers.specs.Stored.{zeroStored}
+use Rattle.mac_registers.proofs.forms.zero_state.Statement.{statement}
+use Rattle.mac_registers.proofs.forms.zero_state.Tie as tie
+
+returns : tie.Need-returns
+unfolding zeroStored zeros
+returns c = refl
+
+pub zero-state-spec : {M : Type 1} → statement M
+zero-state-spec = tie.close (tie.spec returns)

@@ -1,0 +1,105 @@
+-- `mask_all`: at place i, a multiple of 4, the run stands for the state after i/4 words and the mask is left to do from i on; a lent part does its places.
+use lib.ListN.{drop, length, length-drop, length-take, take}
+use mathlib.Core.Path.{_≡_, refl, sym, ap, _∙_, subst}
+use native.Mathlib.Omega.{arith}
+use Prim.Native.Nat.{ℕ, _+_, _*_, _-_, _/_, _%_, _≤_}
+use borrow.Author.Needs.{needs}
+use Rattle.standard.proofs.Each.{doneFrom, from-end, from-start}
+use Rattle.standard.proofs.Generator.{after-none, word-after, wordAt-after}
+use Rattle.standard.specs.Confidentiality.{eachFrom, masked, wordsToMask}
+use Rattle.standard.specs.Generator.{Cells, State, after, word, wordAt}
+use Rattle.zuc_bulk.proofs.Filling.{turn-on}
+use Rattle.zuc.specs.Reading.{Draw, stateOf}
+use Rattle.zuc_turn.specs.Run.{Standing, raisedOf, stateAt}
+use Rattle.mask_bulk.proofs.Words.{alone, turn-masked, turn-state}
+use Rattle.mask_bulk.proofs.mask_all.Statement.{statement}
+use Rattle.mask_bulk.proofs.mask_all.Tie as tie
+
+abbrev Inv-loop : tie.InvT-loop
+Inv-loop t0 t1 buf₀ high run₀ pairs₀ h₀ i₀ buf run pairs h i =
+    (i ≤ length buf₀)
+    × (i % 4 ≡ 0)
+    × (length buf ≡ length buf₀)
+    × Standing run pairs 0 h (after (i / 4) (stateAt run₀ 0 h₀))
+    × (doneFrom (masked (wordAt (stateAt run₀ 0 h₀))) i buf ≡ doneFrom (masked (wordAt (stateAt run₀ 0 h₀))) 0 buf₀)
+
+abbrev μ-loop : tie.MeasureT-loop
+μ-loop t0 t1 buf₀ high run₀ pairs₀ h₀ i₀ buf run pairs h i = length buf₀ - i
+
+lay-state-requires : tie.Need-lay-state-requires Inv-loop μ-loop
+lay-state-requires c κs = ((refl, refl), c .before .before .before .before .pre .1 .1)
+
+loop-holds : tie.Need-loop-holds Inv-loop μ-loop
+loop-holds c =
+    let laid = c .before .before .lay-state .ensures in
+    (omega arith, refl, refl, record { laid = laid .laid; low = laid .low; state = sym (after-none _) }, refl)
+
+mask-block-requires : tie.Need-mask-block-requires Inv-loop μ-loop
+mask-block-requires c κs =
+    let loop = c .before .before .before .before .before .before in
+    let at-raised = loop .before .before .before .before .before .before in
+    let start = at-raised .before .before in
+    let standing = loop .loop .inv .3 in
+    (at-raised .raised .ensures ∙ ap raisedOf (start .pre .0), (start .pre .1 .0, (standing .laid, (standing .low, (simp (length-take, length-drop) (omega arith), simp (length-take, length-drop) (omega arith))))))
+
+loop-again : tie.Need-loop-again Inv-loop μ-loop
+loop-again c =
+    let at-block = c .before .before .before .before in
+    let at-smaller = at-block .before .before .before .before .before in
+    let l = at-smaller .before .before .loop in
+    let i : ℕ = l .i in
+    let e : ℕ = i + 4 * at-smaller .smaller .result in
+    let f = at-block .mask-block .ensures in
+    let far : i / 4 + length (take (e - i) (drop i (l .buf))) / 4 ≡ e / 4 = simp (length-take, length-drop) (omega arith) in (
+      omega arith,
+      omega arith,
+      omega arith,
+      turn-on _ (i / 4) _ (e / 4) (l .inv .3) (f .0) far,
+      turn-masked _ (i / 4) i e (omega arith) _ (l .buf) _ e (omega arith) (omega arith)
+          (λ n h. ap (λ (τ : State). wordAt τ n) (l .inv .3 .state) ∙ wordAt-after (i / 4) n _) (f .1)
+          ∙ l .inv .4,
+    )
+
+state-of-requires : tie.Need-state-of-requires Inv-loop μ-loop
+state-of-requires c κs = let standing = c .before .before .loop .inv .3 in (standing .laid .long, standing .low)
+
+draw-requires : tie.Need-draw-requires Inv-loop μ-loop
+draw-requires c κs =
+    let loop = c .before .before .before in
+    let pre = loop .before .before .before .before .before .before .before .before .pre in
+    (pre .0, (pre .1 .0, subst (λ (τ : State). Cells (τ .cells)) (sym (c .state-of .ensures)) (loop .loop .inv .3 .laid .cells)))
+
+xor-rest-requires : tie.Need-xor-rest-requires Inv-loop μ-loop
+xor-rest-requires c κs = simp (length-take, length-drop) (omega arith)
+
+same-length : tie.Need-same-length Inv-loop μ-loop
+same-length c = omega arith
+
+returns : tie.Need-returns Inv-loop μ-loop
+returns c =
+    let at-draw = c .before .before .before .before .before in
+    let at-state = at-draw .before in
+    let loop = at-state .before .before .before in
+    let l = loop .loop in
+    let at-lay = loop .before .before .before in
+    let start = at-lay .before .before .before .before .before in
+    let i : ℕ = l .i in
+    let n : ℕ = length (l .buf) in
+    let same = at-lay .lay-state .ensures .state in
+    let σ : State = stateAt (at-lay .lay-state .last .1 .0) 0 (at-lay .lay-state .result) in
+    let at : stateOf (at-state .state-of .result) ≡ after (i / 4) σ = at-state .state-of .ensures ∙ l .inv .3 .state in
+    let drawn = ap (λ (d : Draw). d .word) (at-draw .draw .ensures) ∙ ap word at ∙ word-after (i / 4) σ in (
+      ap (λ (d : Draw). d .state) (at-draw .draw .ensures)
+          ∙ turn-state σ _ (i / 4) (wordsToMask (length (start .args .buf .now))) at (omega arith)
+          ∙ ap (after (wordsToMask (length (start .args .buf .now)))) same,
+      sym (from-end (masked (wordAt σ)) n _ (omega (arith, same-length c)))
+          ∙ turn-masked σ (i / 4) i n (omega arith) _ (l .buf) _ n (omega arith) (omega arith) (alone σ (i / 4) i n (omega arith) drawn (omega arith)) (c .before .before .before .xor-rest .ensures)
+          ∙ l .inv .4
+          ∙ from-start _ _
+          ∙ ap (λ (τ : State). eachFrom (masked (wordAt τ)) 0 (start .args .buf .now)) same,
+    )
+
+pub mask-all-spec : {M : Type 1} → statement M
+mask-all-spec =
+    tie.close
+    (tie.spec Inv-loop μ-loop (λ c κs. search needs) (λ c. search needs) (λ c. search needs) lay-state-requires loop-holds (λ c. omega arith) (λ c. omega arith) (λ c κs. search needs) (λ c. omega arith) (λ c. omega arith) (λ c. search needs) (λ c. search needs) (λ c. omega arith) (λ c. omega arith) (λ c. omega arith) mask-block-requires (λ c. omega arith) loop-again (λ c. search needs) state-of-requires draw-requires (λ c. omega arith) (λ c. omega arith) (λ c. omega arith) xor-rest-requires same-length returns)
