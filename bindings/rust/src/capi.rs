@@ -1,6 +1,6 @@
 //! The C interface as safe functions, one for each function of include/zuc.h:
 //! states are plain arrays that the caller lends, and every function answers the
-//! number of its refusal, 0 when it has done its work.
+//! [number](crate::Refusal::number) of its refusal, 0 when it has done its work.
 //!
 //! The other modules stand on this one and are what most will want. This one is
 //! for callers who keep states in their own memory, or who want the numbers.
@@ -10,6 +10,7 @@
 //!
 //! ```
 //! use yegetmur::capi::{self, STATE_WORDS};
+//! use yegetmur::Refusal;
 //!
 //! let mut state = [0; STATE_WORDS];
 //! assert_eq!(capi::zuc128_start(&mut state, &[0; 16], &[0; 16]), 0);
@@ -17,8 +18,9 @@
 //! assert_eq!(capi::zuc_draw(&mut state, &mut word), 0);
 //! assert_eq!(word, 0x27be_de74);
 //!
-//! assert_eq!(capi::zuc128_start(&mut state, &[0; 15], &[0; 17]), 2);
-//! assert_eq!(capi::zuc_draw(&mut state, &mut word), 4);
+//! let refused = capi::zuc128_start(&mut state, &[0; 15], &[0; 17]);
+//! assert_eq!(refused, Refusal::Key.number());
+//! assert_eq!(capi::zuc_draw(&mut state, &mut word), Refusal::State.number());
 //! assert_eq!((state, word), ([0; STATE_WORDS], 0));
 //! ```
 
@@ -29,67 +31,66 @@
 
 use crate::ffi;
 
-/// Numbers in a generator's state: `ZUC_STATE_WORDS` of zuc.h.
-pub const STATE_WORDS: usize = 18;
+pub use crate::ffi::{State, TagState, STATE_WORDS, TAG_WORDS};
 
-/// Numbers in a tag's state: `ZUC_TAG_WORDS` of zuc.h.
-pub const TAG_WORDS: usize = 19;
-
-/// A generator's state: the cells s0..s15, then R1, then R2.
-pub type State = [u32; STATE_WORDS];
-
-/// A tag's state.
-pub type TagState = [u64; TAG_WORDS];
-
-/// Starts ZUC-128: 16 bytes of key, 16 of IV. Refuses by 2, 3.
+/// Starts ZUC-128: 16 bytes of key, 16 of IV.
+/// [Refuses](crate::Refusal) by Key, Iv.
 pub fn zuc128_start(state: &mut State, key: &[u8], iv: &[u8]) -> u32 {
     // SAFETY: see the top.
     unsafe { ffi::zuc128_start(state, key.as_ptr(), key.len(), iv.as_ptr(), iv.len()) }
 }
 
-/// Starts ZUC-256: 32 bytes of key, 23 of IV. Refuses by 2, 3.
+/// Starts ZUC-256: 32 bytes of key, 23 of IV.
+/// [Refuses](crate::Refusal) by Key, Iv.
 pub fn zuc256_start(state: &mut State, key: &[u8], iv: &[u8]) -> u32 {
     // SAFETY: see the top.
     unsafe { ffi::zuc256_start(state, key.as_ptr(), key.len(), iv.as_ptr(), iv.len()) }
 }
 
-/// Starts 128-EEA3: 16 bytes of key. Refuses by 2.
+/// Starts 128-EEA3: 16 bytes of key.
+/// [Refuses](crate::Refusal) by Key.
 pub fn eea3_start(state: &mut State, count: u32, bearer: u8, direction: u8, key: &[u8]) -> u32 {
     // SAFETY: see the top.
     unsafe { ffi::eea3_start(state, count, bearer, direction, key.as_ptr(), key.len()) }
 }
 
-/// Draws the next word. Refuses by 4.
+/// Draws the next word.
+/// [Refuses](crate::Refusal) by State.
 pub fn zuc_draw(state: &mut State, word: &mut u32) -> u32 {
     // SAFETY: see the top.
     unsafe { ffi::zuc_draw(state, word) }
 }
 
-/// Fills `out` with the next words. Refuses by 4.
+/// Fills `out` with the next words.
+/// [Refuses](crate::Refusal) by State.
 pub fn zuc_words(state: &mut State, out: &mut [u32]) -> u32 {
     // SAFETY: see the top.
     unsafe { ffi::zuc_words(state, out.as_mut_ptr(), out.len()) }
 }
 
-/// Masks as the crate does, and counts the words drawn. Refuses by 4, 5.
+/// Masks as the crate does, and counts the words drawn.
+/// [Refuses](crate::Refusal) by State, Bits.
 pub fn zuc_mask_crate(state: &mut State, buf: &mut [u8], bits: usize, count: &mut usize) -> u32 {
     // SAFETY: see the top.
     unsafe { ffi::zuc_mask_crate(state, buf.as_mut_ptr(), buf.len(), bits, count) }
 }
 
-/// Masks and zeroes every bit past `bits`, and counts the words drawn. Refuses by 4, 5.
+/// Masks and zeroes every bit past `bits`, and counts the words drawn.
+/// [Refuses](crate::Refusal) by State, Bits.
 pub fn zuc_mask_clean(state: &mut State, buf: &mut [u8], bits: usize, count: &mut usize) -> u32 {
     // SAFETY: see the top.
     unsafe { ffi::zuc_mask_clean(state, buf.as_mut_ptr(), buf.len(), bits, count) }
 }
 
-/// Starts a ZUC-128 tag: 16 bytes of key, 16 of IV. Refuses by 2, 3.
+/// Starts a ZUC-128 tag: 16 bytes of key, 16 of IV.
+/// [Refuses](crate::Refusal) by Key, Iv.
 pub fn zuc128_tag_start(state: &mut TagState, key: &[u8], iv: &[u8]) -> u32 {
     // SAFETY: see the top.
     unsafe { ffi::zuc128_tag_start(state, key.as_ptr(), key.len(), iv.as_ptr(), iv.len()) }
 }
 
-/// Starts a 128-EIA3 tag: 16 bytes of key. Refuses by 2.
+/// Starts a 128-EIA3 tag: 16 bytes of key.
+/// [Refuses](crate::Refusal) by Key.
 pub fn eia3_tag_start(
     state: &mut TagState,
     count: u32,
@@ -101,25 +102,29 @@ pub fn eia3_tag_start(
     unsafe { ffi::eia3_tag_start(state, count, bearer, direction, key.as_ptr(), key.len()) }
 }
 
-/// Starts a ZUC-256 tag of `width` bytes: 32 bytes of key, 23 of IV. Refuses by 1, 2, 3.
+/// Starts a ZUC-256 tag of `width` bytes: 32 bytes of key, 23 of IV.
+/// [Refuses](crate::Refusal) by Width, Key, Iv.
 pub fn zuc256_tag_start(state: &mut TagState, width: usize, key: &[u8], iv: &[u8]) -> u32 {
     // SAFETY: see the top.
     unsafe { ffi::zuc256_tag_start(state, width, key.as_ptr(), key.len(), iv.as_ptr(), iv.len()) }
 }
 
-/// Takes the next bytes of a message into a ZUC-128 or EIA3 tag. Refuses by 4.
+/// Takes the next bytes of a message into a ZUC-128 or EIA3 tag.
+/// [Refuses](crate::Refusal) by State.
 pub fn zuc128_tag_update(state: &mut TagState, msg: &[u8]) -> u32 {
     // SAFETY: see the top.
     unsafe { ffi::zuc128_tag_update(state, msg.as_ptr(), msg.len()) }
 }
 
-/// Takes the next bytes of a message into a ZUC-256 tag. Refuses by 4.
+/// Takes the next bytes of a message into a ZUC-256 tag.
+/// [Refuses](crate::Refusal) by State.
 pub fn zuc256_tag_update(state: &mut TagState, msg: &[u8]) -> u32 {
     // SAFETY: see the top.
     unsafe { ffi::zuc256_tag_update(state, msg.as_ptr(), msg.len()) }
 }
 
-/// Takes the last `bits` bits and closes a ZUC-128 or EIA3 tag. Refuses by 4, 5.
+/// Takes the last `bits` bits and closes a ZUC-128 or EIA3 tag.
+/// [Refuses](crate::Refusal) by State, Bits.
 pub fn zuc128_tag_finish(
     state: &mut TagState,
     tail: &[u8],
@@ -130,7 +135,8 @@ pub fn zuc128_tag_finish(
     unsafe { ffi::zuc128_tag_finish(state, tail.as_ptr(), tail.len(), bits, tag) }
 }
 
-/// Takes the last `bits` bits and closes a ZUC-256 tag. Refuses by 4, 5.
+/// Takes the last `bits` bits and closes a ZUC-256 tag.
+/// [Refuses](crate::Refusal) by State, Bits.
 pub fn zuc256_tag_finish(
     state: &mut TagState,
     tail: &[u8],
@@ -141,7 +147,8 @@ pub fn zuc256_tag_finish(
     unsafe { ffi::zuc256_tag_finish(state, tail.as_ptr(), tail.len(), bits, tag) }
 }
 
-/// The ZUC-128 tag of the first `bits` bits of `msg`. Refuses by 2, 3, 5.
+/// The ZUC-128 tag of the first `bits` bits of `msg`.
+/// [Refuses](crate::Refusal) by Key, Iv, Bits.
 pub fn zuc128_tag(key: &[u8], iv: &[u8], msg: &[u8], bits: usize, tag: &mut [u64; 2]) -> u32 {
     let (key_len, iv_len, len) = (key.len(), iv.len(), msg.len());
     let (key, iv, msg) = (key.as_ptr(), iv.as_ptr(), msg.as_ptr());
@@ -149,7 +156,8 @@ pub fn zuc128_tag(key: &[u8], iv: &[u8], msg: &[u8], bits: usize, tag: &mut [u64
     unsafe { ffi::zuc128_tag(key, key_len, iv, iv_len, msg, len, bits, tag) }
 }
 
-/// The 128-EIA3 tag of the first `bits` bits of `msg`. Refuses by 2, 5.
+/// The 128-EIA3 tag of the first `bits` bits of `msg`.
+/// [Refuses](crate::Refusal) by Key, Bits.
 pub fn eia3_tag(
     count: u32,
     bearer: u8,
@@ -165,7 +173,8 @@ pub fn eia3_tag(
     unsafe { ffi::eia3_tag(count, bearer, direction, key, key_len, msg, len, bits, tag) }
 }
 
-/// The ZUC-256 tag, `width` bytes, of the first `bits` bits of `msg`. Refuses by 1, 2, 3, 5.
+/// The ZUC-256 tag, `width` bytes, of the first `bits` bits of `msg`.
+/// [Refuses](crate::Refusal) by Width, Key, Iv, Bits.
 pub fn zuc256_tag(
     width: usize,
     key: &[u8],

@@ -66,7 +66,7 @@ pub fn eea3_xor_inplace(
 /// panics. Answers how many words were drawn.
 ///
 /// # Errors
-/// [`Refusal::Key`], [`Refusal::BitLength`]; `data` is then as it came.
+/// [`Refusal::Key`], [`Refusal::Bits`]; `data` is then as it came.
 pub fn try_eea3_xor_inplace(
     count: u32,
     bearer: u8,
@@ -100,7 +100,7 @@ pub fn eea3_xor_clean(
 /// Answers how many words were drawn.
 ///
 /// # Errors
-/// [`Refusal::Key`], [`Refusal::BitLength`]; `data` is then as it came.
+/// [`Refusal::Key`], [`Refusal::Bits`]; `data` is then as it came.
 pub fn try_eea3_xor_clean(
     count: u32,
     bearer: u8,

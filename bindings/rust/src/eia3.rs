@@ -41,7 +41,7 @@ impl Eia3Mac {
     /// that panics.
     ///
     /// # Errors
-    /// [`Refusal::Key`], [`Refusal::BitLength`].
+    /// [`Refusal::Key`], [`Refusal::Bits`].
     pub fn try_compute(
         count: u32,
         bearer: u8,
@@ -98,7 +98,7 @@ impl Eia3Mac {
     /// answered a tag the generator is closed and refuses everything.
     ///
     /// # Errors
-    /// [`Refusal::State`], [`Refusal::BitLength`]; the generator is then as it
+    /// [`Refusal::State`], [`Refusal::Bits`]; the generator is then as it
     /// was and can go on.
     pub fn try_finish(&mut self, tail: &[u8], bitlen: usize) -> Result<u32, Refusal> {
         self.0.try_finish(tail, bitlen)

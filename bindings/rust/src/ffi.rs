@@ -1,6 +1,17 @@
-//! The functions of include/zuc.h, as the linker finds them.
+//! The functions of include/zuc.h, as the linker finds them, and the arrays that
+//! they are lent. `capi` stands on this module and hands the arrays on.
 
-use crate::capi::{State, TagState};
+/// Numbers in a generator's state: `ZUC_STATE_WORDS` of zuc.h.
+pub const STATE_WORDS: usize = 18;
+
+/// Numbers in a tag's state: `ZUC_TAG_WORDS` of zuc.h.
+pub const TAG_WORDS: usize = 19;
+
+/// A generator's state: the cells s0..s15, then R1, then R2.
+pub type State = [u32; STATE_WORDS];
+
+/// A tag's state.
+pub type TagState = [u64; TAG_WORDS];
 
 #[rustfmt::skip]
 extern "C" {

@@ -72,8 +72,8 @@ macro_rules! beside_the_crate {
             /// As [`xor_inplace`](Self::xor_inplace), and refuses where that panics.
             ///
             /// # Errors
-            /// [`Refusal::BitLength`](crate::Refusal::BitLength); keystream and `data` are
-            /// then as they came.
+            /// [`Refusal::Bits`](crate::Refusal::Bits); keystream and `data` are then as
+            /// they came.
             pub fn try_xor_inplace(
                 &mut self,
                 data: &mut [u8],
@@ -85,8 +85,8 @@ macro_rules! beside_the_crate {
             /// As [`xor_clean`](Self::xor_clean), and refuses where that panics.
             ///
             /// # Errors
-            /// [`Refusal::BitLength`](crate::Refusal::BitLength); keystream and `data` are
-            /// then as they came.
+            /// [`Refusal::Bits`](crate::Refusal::Bits); keystream and `data` are then as
+            /// they came.
             pub fn try_xor_clean(
                 &mut self,
                 data: &mut [u8],

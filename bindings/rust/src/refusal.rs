@@ -15,17 +15,11 @@ pub enum Refusal {
     /// The state is malformed; of a tag here: it is closed.
     State = 4,
     /// The bit length is more than 8 times the bytes given.
-    BitLength = 5,
+    Bits = 5,
 }
 
 impl Refusal {
-    const ALL: [Self; 5] = [
-        Self::Width,
-        Self::Key,
-        Self::Iv,
-        Self::State,
-        Self::BitLength,
-    ];
+    const ALL: [Self; 5] = [Self::Width, Self::Key, Self::Iv, Self::State, Self::Bits];
 
     /// The number that the C interface answers.
     #[must_use]
@@ -61,7 +55,7 @@ impl fmt::Display for Refusal {
             Self::Key => "the key has the wrong length",
             Self::Iv => "the IV has the wrong length",
             Self::State => "the state is malformed or the tag is closed",
-            Self::BitLength => "the bit length is more than 8 times the bytes given",
+            Self::Bits => "the bit length is more than 8 times the bytes given",
         })
     }
 }

@@ -54,7 +54,7 @@ pub fn zuc128_xor_inplace(ck: &[u8; 16], iv: &[u8; 16], data: &mut [u8], bitlen:
 /// where that panics. Answers how many words were drawn.
 ///
 /// # Errors
-/// [`Refusal::Key`], [`Refusal::Iv`], [`Refusal::BitLength`]; `data` is then as
+/// [`Refusal::Key`], [`Refusal::Iv`], [`Refusal::Bits`]; `data` is then as
 /// it came.
 pub fn try_zuc128_xor_inplace(
     ck: &[u8],
@@ -78,7 +78,7 @@ pub fn zuc128_xor_clean(ck: &[u8; 16], iv: &[u8; 16], data: &mut [u8], bitlen: u
 /// that panics. Answers how many words were drawn.
 ///
 /// # Errors
-/// [`Refusal::Key`], [`Refusal::Iv`], [`Refusal::BitLength`]; `data` is then as
+/// [`Refusal::Key`], [`Refusal::Iv`], [`Refusal::Bits`]; `data` is then as
 /// it came.
 pub fn try_zuc128_xor_clean(
     ck: &[u8],
@@ -113,7 +113,7 @@ impl Zuc128Mac {
     /// refuses where that panics.
     ///
     /// # Errors
-    /// [`Refusal::Key`], [`Refusal::Iv`], [`Refusal::BitLength`].
+    /// [`Refusal::Key`], [`Refusal::Iv`], [`Refusal::Bits`].
     pub fn try_compute(ik: &[u8], iv: &[u8], msg: &[u8], bitlen: usize) -> Result<u32, Refusal> {
         answered(|tag| capi::zuc128_tag(ik, iv, msg, bitlen, tag))
     }
@@ -162,7 +162,7 @@ impl Zuc128Mac {
     /// answered a tag the generator is closed and refuses everything.
     ///
     /// # Errors
-    /// [`Refusal::State`], [`Refusal::BitLength`]; the generator is then as it
+    /// [`Refusal::State`], [`Refusal::Bits`]; the generator is then as it
     /// was and can go on.
     pub fn try_finish(&mut self, tail: &[u8], bitlen: usize) -> Result<u32, Refusal> {
         answered(|tag| capi::zuc128_tag_finish(&mut self.0, tail, bitlen, tag))

@@ -74,7 +74,7 @@ impl<T: MacTag> Zuc256Mac<T> {
     /// refuses where that panics.
     ///
     /// # Errors
-    /// [`Refusal::Key`], [`Refusal::Iv`], [`Refusal::BitLength`].
+    /// [`Refusal::Key`], [`Refusal::Iv`], [`Refusal::Bits`].
     pub fn try_compute(ik: &[u8], iv: &[u8], msg: &[u8], bitlen: usize) -> Result<T, Refusal> {
         answered(|tag| capi::zuc256_tag(Self::WIDTH, ik, iv, msg, bitlen, tag))
     }
@@ -127,7 +127,7 @@ impl<T: MacTag> Zuc256Mac<T> {
     /// answered a tag the generator is closed and refuses everything.
     ///
     /// # Errors
-    /// [`Refusal::State`], [`Refusal::BitLength`]; the generator is then as it
+    /// [`Refusal::State`], [`Refusal::Bits`]; the generator is then as it
     /// was and can go on.
     pub fn try_finish(&mut self, tail: &[u8], bitlen: usize) -> Result<T, Refusal> {
         answered(|tag| capi::zuc256_tag_finish(&mut self.state, tail, bitlen, tag))

@@ -42,5 +42,5 @@ fn numbers_agree() {
     assert_eq!(defined("ZUC_BAD_KEY"), Refusal::Key.number());
     assert_eq!(defined("ZUC_BAD_IV"), Refusal::Iv.number());
     assert_eq!(defined("ZUC_BAD_STATE"), Refusal::State.number());
-    assert_eq!(defined("ZUC_BAD_BITS"), Refusal::BitLength.number());
+    assert_eq!(defined("ZUC_BAD_BITS"), Refusal::Bits.number());
 }
