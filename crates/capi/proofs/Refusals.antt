@@ -10,60 +10,61 @@ use Rattle.capi_arrays.specs.Arrays.{arrayOf, regrouped, stateIn, storedIn, tag
 use Rattle.capi.specs.Generators.{drawArray, maskArray, startArray, wordsArray}
 use Rattle.capi.specs.Tags.{ClosingArray, tagArray}
 use Rattle.keystream.specs.Draws.{drawOutcome, fillOutcome}
-use Rattle.mac.specs.Calls.{closing, refusedStart, updateOutcome}
-use Rattle.mask.specs.Outcome.{Outcome, checked}
-use Rattle.mac_registers.specs.Stored.{zeroStored}
+use Rattle.mac.specs.Calls.{closing, refusedTag, updateOutcome}
+use Rattle.keystream.specs.Starts.{refusedStart}
+use Rattle.standard.specs.Refusals.{badBits, badState, tested}
+use Rattle.mask.specs.Outcome.{Outcome, maskTested}
+use Rattle.standard.specs.States.{zeroStored, wellFormed, zeros}
 use Rattle.standard.specs.Bits.{bitAt, bitOf, window}
-use Rattle.standard.specs.Generator.{_⟨_⟩, wellFormed, zeros}
-use Rattle.standard.specs.Loading.{listed}
+use Rattle.standard.specs.Notation.{_⟨_⟩, listed}
 
-pub start-refused : (n : ℕ) → startArray (record { number = n; state = zeros }) ≡ record { number = n; array = replicate 18 0 }
+pub start-refused : (n : ℕ) → startArray (refusedStart n) ≡ record { number = n; array = replicate 18 0 }
 unfolding arrayOf zeros
 start-refused n = refl
 
-pub tag-start-refused : (n : ℕ) → tagArray (refusedStart n) ≡ record { number = n; array = replicate 19 0 }
+pub tag-start-refused : (n : ℕ) → tagArray (refusedTag n) ≡ record { number = n; array = replicate 19 0 }
 unfolding tagArrayOf zeroStored zeros arrayOf regrouped listed window bitAt bitOf
 tag-start-refused n = refl
 
 module _ (a : List ℕ) (full : length a ≡ 18) where
-  pub draw-refused : wellFormed (stateIn a .cells) ≡ false → drawArray (drawOutcome (stateIn a)) ≡ record { number = 4; word = 0; array = a }
-  unfolding drawOutcome
-  draw-refused e = rw e (λ i. record { number = 4; word = 0; array = state-array a full i })
+  pub draw-refused : wellFormed (stateIn a .cells) ≡ false → drawArray (drawOutcome (stateIn a)) ≡ record { number = badState; word = 0; array = a }
+  unfolding drawOutcome tested
+  draw-refused e = rw e (λ i. record { number = badState; word = 0; array = state-array a full i })
 
   pub words-refused : (out : List ℕ) → wellFormed (stateIn a .cells) ≡ false
-      → wordsArray (fillOutcome (stateIn a) out) ≡ record { number = 4; array = a; buffer = out }
-  unfolding fillOutcome
-  words-refused out e = rw e (λ i. record { number = 4; array = state-array a full i; buffer = out })
+      → wordsArray (fillOutcome (stateIn a) out) ≡ record { number = badState; array = a; buffer = out }
+  unfolding fillOutcome tested
+  words-refused out e = rw e (λ i. record { number = badState; array = state-array a full i; buffer = out })
 
   -- in either mode, whatever the mask would be
   module _ (bits : ℕ) (buf : List ℕ) (mask : Outcome) where
-    pub mask-malformed : wellFormed (stateIn a .cells) ≡ false
-        → maskArray (checked (stateIn a) bits buf mask) ≡ record { number = 4; count = 0; array = a; buffer = buf }
-    unfolding checked
-    mask-malformed e = rw e (λ i. record { number = 4; count = 0; array = state-array a full i; buffer = buf })
+    pub mask-bad-state : wellFormed (stateIn a .cells) ≡ false
+        → maskArray (maskTested (stateIn a) bits buf mask) ≡ record { number = badState; count = 0; array = a; buffer = buf }
+    unfolding maskTested tested
+    mask-bad-state e = rw e (λ i. record { number = badState; count = 0; array = state-array a full i; buffer = buf })
 
-    pub mask-too-long : wellFormed (stateIn a .cells) ≡ true → leb bits (length buf * 8) ≡ false
-        → maskArray (checked (stateIn a) bits buf mask) ≡ record { number = 5; count = 0; array = a; buffer = buf }
-    unfolding checked
-    mask-too-long e l = rw (e, l) (λ i. record { number = 5; count = 0; array = state-array a full i; buffer = buf })
+    pub mask-bad-bits : wellFormed (stateIn a .cells) ≡ true → leb bits (length buf * 8) ≡ false
+        → maskArray (maskTested (stateIn a) bits buf mask) ≡ record { number = badBits; count = 0; array = a; buffer = buf }
+    unfolding maskTested tested
+    mask-bad-bits e l = rw (e, l) (λ i. record { number = badBits; count = 0; array = state-array a full i; buffer = buf })
 
 module _ (a : List ℕ) (full : length a ≡ 19) (fits : (k : ℕ) → k < length a → a ⟨ k ⟩ < 2 ^ 64) where
-  pub update-refused : (formed : Bool) (message : List ℕ) → formed ≡ false
-      → tagArray (updateOutcome formed (storedIn a) message) ≡ record { number = 4; array = a }
-  unfolding updateOutcome
-  update-refused formed message e = rw e (λ i. record { number = 4; array = stored-array a full fits i })
+  pub update-refused : (ok : Bool) (message : List ℕ) → ok ≡ false
+      → tagArray (updateOutcome ok (storedIn a) message) ≡ record { number = badState; array = a }
+  unfolding updateOutcome tested
+  update-refused ok message e = rw e (λ i. record { number = badState; array = stored-array a full fits i })
 
   -- at either kind, whatever the tag would be, in the words that the array of a tag has of it
-  module _ {Tag : Type 0} (words : Tag → List ℕ) (none tag : Tag) (formed : Bool) (tail : List ℕ) (bits : ℕ) where
+  module _ {Tag : Type 0} (words : Tag → List ℕ) (none tag : Tag) (ok : Bool) (tail : List ℕ) (bits : ℕ) where
     abbrev finished : ClosingArray
     finished =
-        let o = closing none formed (storedIn a) tail bits tag in
+        let o = closing none ok (storedIn a) tail bits tag in
         record { number = o .number; tag = words (o .tag); array = tagArrayOf (o .state) }
 
-    pub finish-malformed : formed ≡ false → finished ≡ record { number = 4; tag = words none; array = a }
-    unfolding closing
-    finish-malformed e = rw e (λ i. record { number = 4; tag = words none; array = stored-array a full fits i })
+    pub finish-bad-state : ok ≡ false → finished ≡ record { number = badState; tag = words none; array = a }
+    unfolding closing tested
+    finish-bad-state e = rw e (λ i. record { number = badState; tag = words none; array = stored-array a full fits i })
 
-    pub finish-too-long : formed ≡ true → leb bits (length tail * 8) ≡ false → finished ≡ record { number = 5; tag = words none; array = a }
-    unfolding closing
-    finish-too-long e l = rw (e, l) (λ i. record { number = 5; tag = words none; array = stored-array a full fits i })
+    pub finish-bad-bits : ok ≡ true → leb bits (length tail * 8) ≡ false → finished ≡ record { number = badBits; tag = words none; array = a }
+    unfolding closing tested
+    finish-bad-bits e l = rw (e, l) (λ i. record { number = badBits; tag = words none; array = stored-array a full fits i })

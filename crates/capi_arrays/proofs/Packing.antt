@@ -8,10 +8,10 @@ use native.Mathlib.Omega.{arith}
 use Prim.Native.Nat.{ℕ, zero, suc, _+_, _*_, _^_, _<_, _≤_}
 use Rattle.capi_arrays.proofs.Regrouped.{regrouped-back, regrouped-length}
 use Rattle.capi_arrays.specs.Arrays.{arrayOf, regrouped, stateIn, storedIn, tagArrayOf}
-use Rattle.mac_registers.specs.Stored.{Stored}
+use Rattle.standard.specs.States.{Stored}
 use Rattle.standard.proofs.Listed.{getD-listed, is-listed, length-listed}
-use Rattle.standard.specs.Generator.{State, _⟨_⟩}
-use Rattle.standard.specs.Loading.{listed}
+use Rattle.standard.specs.Generator.{State}
+use Rattle.standard.specs.Notation.{_⟨_⟩, listed}
 
 -- a part of a list, written out
 pub part-listed : (a : List ℕ) (from n : ℕ) → from + n ≤ length a → listed (λ k. a ⟨ k ⟩) from n ≡ take n (drop from a)

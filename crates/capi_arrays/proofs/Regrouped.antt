@@ -11,8 +11,7 @@ use Rattle.capi_arrays.specs.Arrays.{regrouped}
 use Rattle.standard.proofs.Listed.{getD-listed, is-listed, length-listed, stored}
 use Rattle.standard.proofs.Window.{bit-window, bitAt-lt, window-bitOf, window-cell, window-ext, window-split}
 use Rattle.standard.specs.Bits.{bitAt, bitOf, window}
-use Rattle.standard.specs.Generator.{_⟨_⟩}
-use Rattle.standard.specs.Loading.{listed}
+use Rattle.standard.specs.Notation.{_⟨_⟩, listed}
 
 -- two numbers of n bits as one
 pub two-joined : (n : ℕ) → 0 < n → (f : ℕ → ℕ) (k : ℕ) → f k < 2 ^ n → f (k + 1) < 2 ^ n → f k * 2 ^ n + f (k + 1) ≡ window (bitAt n f) (k * n) (n + n)

@@ -2,10 +2,10 @@
 use mathlib.Core.List.{List, [], _∷_, _++_}
 use Prim.Native.Nat.{ℕ, _*_}
 use lib.ListN.{drop, take}
-use Rattle.mac_registers.specs.Stored.{Stored}
+use Rattle.standard.specs.States.{Stored}
 use Rattle.standard.specs.Bits.{bitAt, window}
-use Rattle.standard.specs.Generator.{State, _⟨_⟩}
-use Rattle.standard.specs.Loading.{listed}
+use Rattle.standard.specs.Generator.{State}
+use Rattle.standard.specs.Notation.{_⟨_⟩, listed}
 
 -- a generator, 18 words of 32 bits: s0..s15, R1, R2
 unfoldable pub arrayOf : State → List ℕ

@@ -18,7 +18,7 @@ fn iv(count: u32, bearer: u8, direction: u8) -> [u8; 16]
     [c0, c1, c2, c3, c4, 0, 0, 0, c0, c1, c2, c3, c4, 0, 0, 0]
 }
 
-// A generator of the EEA3 keystream, or refusal 2 for a key that is not 16 bytes.
+// A generator of the EEA3 keystream, or BadKey for a key that is not 16 bytes.
 pub fn new(count: u32, bearer: u8, direction: u8, key: &[u8]) -> Start
     ensures { λ r. ⌜ startTold r ≡ start-EEA3 count bearer direction (now (key .entry)) ⌝ }
 {

@@ -1,8 +1,8 @@
 // The public keystream: starts (in the modules), a draw, and a buffer of words.
 ghost use mathlib.Core.Path.{_≡_};
 ghost use Rattle.keystream.specs.Draws.{drawTold, drawOutcome, fillTold, fillOutcome};
-ghost use Rattle.keystream.specs.Starts.{begun, startTold, startNumber};
-ghost use Rattle.standard.specs.Generator.{Cells, zeros};
+ghost use Rattle.keystream.specs.Starts.{acceptedStart, refusedStart, startTold, startNumber};
+ghost use Rattle.standard.proofs.Cells.{Cells};
 ghost use Rattle.zuc.specs.Reading.{stateOf};
 use zuc::Zuc;
 use zuc::boxes::S0;
@@ -12,7 +12,7 @@ pub mod eea3;
 pub mod zuc128;
 pub mod zuc256;
 
-// A start's answer: 0, or refusal 1, 2 or 3.
+// A start's answer: accepted, or why it was refused.
 pub enum StartAnswer {
     Started,
     BadWidth,
@@ -26,7 +26,7 @@ pub struct Start {
     pub state: Zuc,
 }
 
-// A draw's answer: the word, or refusal 4.
+// A draw's answer: the word, or why it was refused.
 pub enum DrawAnswer {
     Word(u32),
     BadState,
@@ -38,7 +38,7 @@ pub struct Drew {
     pub state: Zuc,
 }
 
-// The answer of a fill: done, or refusal 4.
+// The answer of a fill: done, or why it was refused.
 pub enum FillAnswer {
     Filled,
     BadState,
@@ -52,7 +52,7 @@ pub struct Filling {
 
 // A refused start.
 fn refused(answer: StartAnswer) -> Start
-    ensures { λ r. ⌜ startTold r ≡ record { number = startNumber answer; state = zeros } ⌝ }
+    ensures { λ r. ⌜ startTold r ≡ refusedStart (startNumber answer) ⌝ }
 {
     Start {
         answer,
@@ -67,7 +67,7 @@ fn refused(answer: StartAnswer) -> Start
 // An accepted start: loaded cells, brought through start-up.
 fn started_from(loaded: Zuc) -> Start
     requires { ⌜ Cells (stateOf loaded .cells) ⌝ }
-    ensures { λ r. ⌜ startTold r ≡ begun (stateOf loaded) ⌝ }
+    ensures { λ r. ⌜ startTold r ≡ acceptedStart (stateOf loaded) ⌝ }
 {
     let t0 = S0;
     let t1 = S1;

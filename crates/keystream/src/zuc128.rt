@@ -6,7 +6,7 @@ use super::StartAnswer;
 use super::refused;
 use super::started_from;
 
-// A generator of the ZUC-128 keystream, or refusal 2 for a key and 3 for an IV that is not 16 bytes.
+// A generator of the ZUC-128 keystream, or a refusal: BadKey for a key, BadIv for an IV that is not 16 bytes.
 pub fn new(key: &[u8], iv: &[u8]) -> Start
     ensures { λ r. ⌜ startTold r ≡ start₁₂₈ (now (key .entry)) (now (iv .entry)) ⌝ }
 {

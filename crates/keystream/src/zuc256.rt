@@ -1,7 +1,7 @@
 // ZUC-256: the rows of constants and the starts.
 ghost use mathlib.Core.Path.{_≡_};
 ghost use Rattle.keystream.specs.Starts.{startTold, start₂₅₆, startTag₂₅₆};
-ghost use Rattle.zuc_loading.specs.Rows.{Row};
+ghost use Rattle.zuc_loading.specs.InnerRows.{Row};
 ghost use Rattle.standard.specs.Loading.{d-keystream};
 use super::Start;
 use super::StartAnswer;
@@ -99,14 +99,14 @@ fn start(d: [u8; 16], key: &[u8], iv: &[u8]) -> Start
     started_from(zuc_loading::zuc256::load(d, key, iv))
 }
 
-// A generator of the ZUC-256 keystream, or refusal 2 for a key that is not 32 bytes and 3 for an IV that is not 23.
+// A generator of the ZUC-256 keystream, or a refusal: BadKey for a key that is not 32 bytes, BadIv for an IV that is not 23.
 pub fn new(key: &[u8], iv: &[u8]) -> Start
     ensures { λ r. ⌜ startTold r ≡ start₂₅₆ d-keystream (now (key .entry)) (now (iv .entry)) ⌝ }
 {
     start(D, key, iv)
 }
 
-// The generator of a tag of `width` bytes: refusal 1 for a width that is not 4, 8 or 16, then as `new`.
+// The generator of a tag of `width` bytes: BadWidth for a width that is not 4, 8 or 16, then as `new`.
 pub fn new_with_d(width: usize, key: &[u8], iv: &[u8]) -> Start
     ensures { λ r. ⌜ startTold r ≡ startTag₂₅₆ width (now (key .entry)) (now (iv .entry)) ⌝ }
 {

@@ -1,33 +1,33 @@
--- An accepted start is of well-formed cells and of a width that there is; by cases on the tests in their order.
-use mathlib.Core.Path.{_≡_, refl}
+-- An accepted start is of well-formed cells and of a width that there is; by the tests that it passed.
+use mathlib.Core.Path.{_≡_, refl, subst, sym}
 use mathlib.Core.Bool.{Bool, true, false}
-use mathlib.Core.List.{List}
-use Prim.Native.Nat.{ℕ, suc}
+use mathlib.Core.List.{List, [], _∷_}
+use Prim.Native.Nat.{ℕ}
 use native.Mathlib.Omega.{arith}
-use lib.Dec.{eqb}
-use lib.ListN.{length}
-use Rattle.standard.specs.Generator.{started}
-use Rattle.standard.specs.Integrity.{isWidth}
-use Rattle.standard.specs.Loading.{d-tag₁₂₈, d-tag₃₂, d-tag₆₄, load₁₂₈, load₂₅₆}
+use lib.Dec.{eqb, lit<}
+use Rattle.standard.specs.Generator.{State}
+use Rattle.standard.specs.Loading.{d-tag₁₂₈, d-tag₃₂, d-tag₆₄, load₁₂₈, load₂₅₆, rowOf}
 use Rattle.standard.specs.Notation.{if_then_else_}
+use Rattle.standard.specs.Refusals.{Test, ivTest, keyTest, tested, widthTest}
+use Rattle.standard.proofs.Cells.{Cells}
 use Rattle.standard.proofs.Generator.{sound-started}
-use Rattle.keystream.specs.Starts.{StartOutcome, require, rowOf, startTag₂₅₆, start₁₂₈, start₂₅₆}
-use Rattle.zuc_loading.specs.Rows.{Row}
+use Rattle.standard.proofs.Tested.{AllPass, Numbered, accepted-is, accepted-passed}
+use Rattle.keystream.specs.Starts.{StartOutcome, acceptedStart, refusedStart, startTag₂₅₆, start₁₂₈}
+use Rattle.zuc_loading.specs.InnerRows.{Row}
 use Rattle.zuc_loading.proofs.Loaded.{Bytes, cells-128, cells-256}
 use Rattle.zuc_loading.proofs.Rows.{d-tag₁₂₈-row, d-tag₃₂-row, d-tag₆₄-row}
 use Rattle.mac_registers.proofs.Packed.{width-is}
-use Rattle.mac_registers.specs.Stored.{Width}
-use Rattle.mac.specs.Calls.{Ready}
+use Rattle.mac_registers.specs.Inner.{Width}
+use Rattle.mac.specs.Inner.{Ready}
 
-ready-require : (test : Bool) (n : ℕ) (o : StartOutcome) → Ready o → Ready (require test (suc n) o)
-ready-require true n o r e = r e
-ready-require false n o r e = absurd (omega arith)
+ready : (tests : List Test) → Numbered tests → (loaded : State) → Cells (loaded .cells) → Ready (tested tests refusedStart (acceptedStart loaded))
+ready tests low loaded c e =
+    subst (λ (o : StartOutcome). Cells (o .state .cells))
+    (sym (accepted-is (λ (o : StartOutcome). o .number) refusedStart (λ n. refl) (acceptedStart loaded) tests low e)) (sound-started loaded c)
 
 pub ready-128 : (k iv : List ℕ) → Bytes k → Bytes iv → Ready (start₁₂₈ k iv)
 unfolding start₁₂₈
-ready-128 k iv hk hv =
-    ready-require (eqb (length k) 16) 1 _
-    (ready-require (eqb (length iv) 16) 2 (record { number = 0; state = started (load₁₂₈ k iv) }) (λ e. sound-started (load₁₂₈ k iv) (cells-128 k iv hk hv)))
+ready-128 k iv hk hv = ready (keyTest 16 k ∷ ivTest 16 iv ∷ []) (lit< tt, (lit< tt, tt)) (load₁₂₈ k iv) (cells-128 k iv hk hv)
 
 pub row-of : (width : ℕ) → Row 7 (rowOf width)
 row-of width = by (eqb width 4) (eqb width 8)
@@ -37,29 +37,29 @@ row-of width = by (eqb width 4) (eqb width 8)
     by false true = d-tag₆₄-row
     by false false = d-tag₁₂₈-row
 
-pub ready-256 : (w : ℕ) (k iv : List ℕ) → Bytes k → Bytes iv → Ready (startTag₂₅₆ w k iv)
-unfolding startTag₂₅₆ start₂₅₆
-ready-256 w k iv hk hv =
-    ready-require (isWidth w) 0 _
-    (ready-require (eqb (length k) 32) 1 _
-    (ready-require (eqb (length iv) 23) 2 (record { number = 0; state = started (load₂₅₆ (rowOf w) k iv) })
-    (λ e. sound-started (load₂₅₆ (rowOf w) k iv) (cells-256 (rowOf w) k iv (row-of w) hk hv))))
+module _ (w : ℕ) (k iv : List ℕ) where
+  abbrev tests-256 : List Test
+  tests-256 = widthTest w ∷ keyTest 32 k ∷ ivTest 23 iv ∷ []
 
--- the width of an accepted ZUC-256 start
-pub accepted-width : (w : ℕ) (k iv : List ℕ) → startTag₂₅₆ w k iv .number ≡ 0 → Width w
-unfolding startTag₂₅₆
-accepted-width w k iv e = by (isWidth w) refl e
-  where
-    by : (b : Bool) → isWidth w ≡ b → require b 1 (start₂₅₆ (rowOf w) k iv) .number ≡ 0 → Width w
-    by true t h = width-is w t
-    by false t h = absurd (omega arith)
+  pub ready-256 : Bytes k → Bytes iv → Ready (startTag₂₅₆ w k iv)
+  unfolding startTag₂₅₆
+  ready-256 hk hv = ready tests-256 (lit< tt, (lit< tt, (lit< tt, tt))) (load₂₅₆ (rowOf w) k iv) (cells-256 (rowOf w) k iv (row-of w) hk hv)
+
+  -- the width of an accepted ZUC-256 start
+  pub accepted-width : startTag₂₅₆ w k iv .number ≡ 0 → Width w
+  unfolding startTag₂₅₆
+  accepted-width e =
+      width-is w
+      (accepted-passed (λ (o : StartOutcome). o .number) refusedStart (λ n. refl) (acceptedStart (load₂₅₆ (rowOf w) k iv)) tests-256
+      (lit< tt, (lit< tt, (lit< tt, tt))) e
+      .0)
 
 -- ZUC-128 and EIA3 are never refused for a width
-not-one : (test : Bool) (n : ℕ) (o : StartOutcome) → (o .number ≡ 1 → ⊥) → require test (suc (suc n)) o .number ≡ 1 → ⊥
-not-one true n o r e = r e
-not-one false n o r e = omega arith
-
 pub no-width-128 : (k iv : List ℕ) → start₁₂₈ k iv .number ≡ 1 → ⊥
-unfolding start₁₂₈
-no-width-128 k iv =
-    not-one (eqb (length k) 16) 0 _ (not-one (eqb (length iv) 16) 1 (record { number = 0; state = started (load₁₂₈ k iv) }) (λ e. omega arith))
+unfolding start₁₂₈ tested
+no-width-128 k iv = by (keyTest 16 k .passes) (ivTest 16 iv .passes)
+  where
+    by : (a b : Bool) → (if a then (if b then acceptedStart (load₁₂₈ k iv) else refusedStart 3) else refusedStart 2) .number ≡ 1 → ⊥
+    by true true e = omega arith
+    by true false e = omega arith
+    by false b e = omega arith

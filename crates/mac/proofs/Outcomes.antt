@@ -7,24 +7,30 @@ use native.Mathlib.Nat.{zero-add}
 use native.Mathlib.Omega.{arith}
 use lib.Dec.{eqb, leb}
 use lib.ListN.{length}
-use borrow.Author.Tests.{eqb-true, leb-true}
-use Rattle.standard.specs.Generator.{State, _⟨_⟩, keystream, started, wordAt}
-use Rattle.standard.specs.Integrity.{IV-EIA3, tag-EIA3, tag-ZUC256, isWidth}
+use borrow.Author.Tests.{eqb-true, leb-true, ne-eqb}
+use Rattle.standard.specs.Generator.{State, keystream, started, wordAt}
+use Rattle.standard.specs.Integrity.{IV-EIA3, tag-EIA3, tag-ZUC256}
+use Rattle.standard.specs.Loading.{load₁₂₈, load₂₅₆, rowOf}
+use Rattle.standard.specs.Notation.{_⟨_⟩}
+use Rattle.standard.specs.Refusals.{badBits, badKey, badState, bitsTest, ivTest, keyTest, tested, widthTest}
+use Rattle.standard.specs.States.{Stored, formed, formed-128, zeroStored}
 use Rattle.standard.proofs.Generator.{same-words}
-use Rattle.standard.specs.Loading.{load₁₂₈, load₂₅₆}
 use Rattle.standard.proofs.Table.{and-right}
+use Rattle.standard.proofs.Tested.{tested-map, tested-when}
 use denote.Enum.Declared.{tagOf}
 use mathlib.Core.Logic.{⊎-elim}
 use types.Run.{OneOf}
 use Rattle.keystream.proofs.StartAnswer.{the-type}
 use Rattle.keystream.specs.declared.StartAnswer.{StartAnswer}
 use Rattle.keystream.specs.declared.StartAnswer.the-variants.{Started, BadWidth, BadKey, BadIv}
-use Rattle.keystream.specs.Starts.{StartOutcome, startNumber, require, rowOf, startTag₂₅₆, start₁₂₈, start₂₅₆}
-use Rattle.mac_registers.specs.Stored.{Stored, Width, formed, tagWords, zeroStored}
+use Rattle.keystream.specs.Starts.{StartOutcome, acceptedStart, refusedStart, startNumber, startTag₂₅₆, start₁₂₈}
+use Rattle.mac_registers.specs.Stored.{tagWords}
+use Rattle.mac_registers.specs.Inner.{Width}
 use Rattle.mac_registers.specs.Tagging.{begun-EIA3, begun-ZUC256, closed-EIA3, closed-ZUC256, updated}
 use Rattle.mac_registers.proofs.Packed.{width-is, width-whole}
 use Rattle.mac_tagging.proofs.Rule.{rule-EIA3, rule-ZUC256}
-use Rattle.mac.specs.Calls.{Once, Outcome, checked, closing, formed-128, ifStarted, noWords, once-from-128, once-from-256, onceOutcome-128, onceOutcome-256, onceOutcome-EIA3, refusedStart}
+use Rattle.mac.specs.Calls.{Outcome, closing, noWords, onceOutcome-128, onceOutcome-256, onceOutcome-EIA3, refusedOnce, refusedTag, startOutcome-128, startOutcome-256, startOutcome-EIA3}
+use Rattle.mac.specs.Inner.{begun-128, begun-256, once-from-128, once-from-256, passedUp}
 
 -- an answer that a `match` found to be another than `Started`
 abbrev Refused : StartAnswer → Type 0
@@ -39,26 +45,37 @@ above BadIv h = (2, refl)
 -- a start, by its answer
 module _ (o : StartOutcome) (r : Stored) where
   pub started-as : (accepted : Stored) → o .number ≡ 0 → r ≡ accepted
-      → record { number = 0; state = r } ≡ ifStarted (o .number) (record { number = 0; state = accepted }) refusedStart
+      → record { number = 0; state = r } ≡ tested (passedUp o ∷ []) refusedTag (record { number = 0; state = accepted })
+  unfolding tested
   started-as accepted e f = rw e (ap (λ (x : Stored). record { number = 0; state = x }) f)
 
   pub refused-as : (accepted : Outcome) (a : StartAnswer) → Refused a → o .number ≡ startNumber a → r ≡ zeroStored
-      → record { number = startNumber a; state = r } ≡ ifStarted (o .number) accepted refusedStart
-  refused-as accepted a h e f = let k = above a h in rw (e, k .1) (ap (λ (x : Stored). record { number = suc (k .0); state = x }) f)
+      → record { number = startNumber a; state = r } ≡ tested (passedUp o ∷ []) refusedTag accepted
+  unfolding tested
+  refused-as accepted a h e f =
+      let k = above a h in
+      rw (e, k .1, ne-eqb (suc (k .0)) 0 (λ q. omega arith)) (ap (λ (x : Stored). record { number = suc (k .0); state = x }) f)
+
+-- an answer of ZUC-128 or EIA3 that is neither `Started` nor `BadIv`
+pub key-refused : (a : StartAnswer) → OneOf (1 ∷ 2 ∷ []) (tagOf the-type a) → (startNumber a ≡ 1 → ⊥) → startNumber a ≡ badKey
+key-refused Started h w = absurd (⊎-elim (λ (e : 0 ≡ 1). omega arith) (λ (e : 0 ≡ 2). omega arith) h)
+key-refused BadWidth h w = absurd (w refl)
+key-refused BadKey h w = refl
+key-refused BadIv h w = absurd (⊎-elim (λ (e : 3 ≡ 1). omega arith) (λ (e : 3 ≡ 2). omega arith) h)
 
 -- a closing, by its tests
-module _ {Tag : Type 0} (none : Tag) (formed : Bool) (s : Stored) (tail : List ℕ) (l : ℕ) (tag : Tag) where
-  pub bad-state : formed ≡ false → record { number = 4; tag = none; state = s } ≡ closing none formed s tail l tag
-  unfolding closing
+module _ {Tag : Type 0} (none : Tag) (ok : Bool) (s : Stored) (tail : List ℕ) (l : ℕ) (tag : Tag) where
+  pub bad-state : ok ≡ false → record { number = badState; tag = none; state = s } ≡ closing none ok s tail l tag
+  unfolding closing tested
   bad-state e = rw e refl
 
-  pub too-long : formed ≡ true → leb l (length tail * 8) ≡ false → record { number = 5; tag = none; state = s } ≡ closing none formed s tail l tag
-  unfolding closing
-  too-long e f = rw (e, f) refl
+  pub bad-bits : ok ≡ true → leb l (length tail * 8) ≡ false → record { number = badBits; tag = none; state = s } ≡ closing none ok s tail l tag
+  unfolding closing tested
+  bad-bits e f = rw (e, f) refl
 
-  pub closed : formed ≡ true → leb l (length tail * 8) ≡ true → (t : Tag) (z : Stored) → t ≡ tag → z ≡ zeroStored
-      → record { number = 0; tag = t; state = z } ≡ closing none formed s tail l tag
-  unfolding closing
+  pub closed : ok ≡ true → leb l (length tail * 8) ≡ true → (t : Tag) (z : Stored) → t ≡ tag → z ≡ zeroStored
+      → record { number = 0; tag = t; state = z } ≡ closing none ok s tail l tag
+  unfolding closing tested
   closed e f t z et ez = rw (e, f) (ap₂ (λ (x : Tag) (y : Stored). record { number = 0; tag = x; state = y }) et ez)
 
 -- the document's keystream is the words from the state at rest
@@ -77,57 +94,41 @@ once-ZUC256 {w} v loaded m l h =
     rule-ZUC256 (w * 8) (width-whole v .0) (width-whole v .1) (started loaded) [] m l h
     ∙ ap₂ (λ (x : ℕ → ℕ) (n : ℕ). tag-ZUC256 (w * 8) x m n) (sym (stream-is loaded)) (zero-add l)
 
--- a one-shot from a start of the keystream is the definition's
-abbrev from : {Tag : Type 0} → Tag → (StartOutcome → Once Tag) → StartOutcome → Once Tag
-from none accepted o = ifStarted (o .number) (accepted o) (λ number. record { number = number; tag = none })
+-- what is done with a start of the keystream, and with its refusals, is the definition's
+module _ (key iv : List ℕ) where
+  pub begun-128-is : begun-128 (start₁₂₈ key iv) ≡ startOutcome-128 key iv
+  unfolding begun-128 start₁₂₈ startOutcome-128 tested
+  begun-128-is = tested-map begun-128 (keyTest 16 key ∷ ivTest 16 iv ∷ []) refusedStart (acceptedStart (load₁₂₈ key iv))
 
-checked-tag : {Tag : Type 0} (none : Tag) (test : Bool) (n : ℕ) (a b : Tag) → (test ≡ true → a ≡ b)
-    → checked test n none (record { number = 0; tag = a }) ≡ checked test n none (record { number = 0; tag = b })
-checked-tag none true n a b e = ap (λ x. record { number = 0; tag = x }) (e refl)
-checked-tag none false n a b e = refl
+  pub once-128-is : (m : List ℕ) (l : ℕ) → once-from-128 (start₁₂₈ key iv) m l ≡ onceOutcome-128 key iv m l
+  unfolding once-from-128 start₁₂₈ onceOutcome-128 tested
+  once-128-is m l =
+      tested-map (λ o. once-from-128 o m l) (keyTest 16 key ∷ ivTest 16 iv ∷ []) refusedStart (acceptedStart (load₁₂₈ key iv))
+      ∙ tested-when (keyTest 16 key ∷ ivTest 16 iv ∷ bitsTest l m ∷ []) (refusedOnce 0) _ _
+      (λ all. ap (λ (x : ℕ). record { number = 0; tag = x }) (once-EIA3 (load₁₂₈ key iv) m l (leb-true l (length m * 8) (all .1 .1 .0))))
 
-require-once : {Tag : Type 0} (none : Tag) (test : Bool) (n : ℕ) (o : StartOutcome) (accepted : StartOutcome → Once Tag) (outcome : Once Tag)
-    → from none accepted o ≡ outcome → from none accepted (require test (suc n) o) ≡ checked test (suc n) none outcome
-require-once none true n o accepted outcome e = e
-require-once none false n o accepted outcome e = refl
+  module _ (w : ℕ) where
+    pub begun-256-is : begun-256 w (startTag₂₅₆ w key iv) ≡ startOutcome-256 w key iv
+    unfolding begun-256 startTag₂₅₆ startOutcome-256 tested
+    begun-256-is = tested-map (begun-256 w) (widthTest w ∷ keyTest 32 key ∷ ivTest 23 iv ∷ []) refusedStart (acceptedStart (load₂₅₆ (rowOf w) key iv))
 
-pub once-128-is : (key iv m : List ℕ) (l : ℕ) → once-from-128 (start₁₂₈ key iv) m l ≡ onceOutcome-128 key iv m l
-unfolding start₁₂₈ onceOutcome-128
-once-128-is key iv m l =
-    require-once 0 (eqb (length key) 16) 1 _ accepted _
-    (require-once 0 (eqb (length iv) 16) 2 (record { number = 0; state = started (load₁₂₈ key iv) }) accepted _
-    (checked-tag 0 (leb l (length m * 8)) 5 _ _ (λ e. once-EIA3 (load₁₂₈ key iv) m l (leb-true l (length m * 8) e))))
-  where
-    accepted : StartOutcome → Once ℕ
-    accepted o = checked (leb l (length m * 8)) 5 0 (record { number = 0; tag = closed-EIA3 (begun-EIA3 (o .state)) m l })
+    pub once-256-is : (m : List ℕ) (l : ℕ) → once-from-256 w (startTag₂₅₆ w key iv) m l ≡ onceOutcome-256 w key iv m l
+    unfolding once-from-256 startTag₂₅₆ onceOutcome-256 tested
+    once-256-is m l =
+        tested-map (λ o. once-from-256 w o m l) (widthTest w ∷ keyTest 32 key ∷ ivTest 23 iv ∷ []) refusedStart (acceptedStart (load₂₅₆ (rowOf w) key iv))
+        ∙ tested-when (widthTest w ∷ keyTest 32 key ∷ ivTest 23 iv ∷ bitsTest l m ∷ []) (refusedOnce noWords) _ _
+        (λ all. ap (λ (x : ℕ). record { number = 0; tag = tagWords w x })
+        (once-ZUC256 (width-is w (all .0)) (load₂₅₆ (rowOf w) key iv) m l (leb-true l (length m * 8) (all .1 .1 .1 .0))))
 
-pub once-EIA3-is : (count bearer direction : ℕ) (key m : List ℕ) (l : ℕ)
-    → onceOutcome-128 key (IV-EIA3 count bearer direction) m l ≡ onceOutcome-EIA3 count bearer direction key m l
-unfolding onceOutcome-128 onceOutcome-EIA3 IV-EIA3
-once-EIA3-is count bearer direction key m l = refl
+-- EIA3's IV is never refused for its length
+module _ (count bearer direction : ℕ) (key : List ℕ) where
+  pub begun-EIA3-is : startOutcome-128 key (IV-EIA3 count bearer direction) ≡ startOutcome-EIA3 count bearer direction key
+  unfolding startOutcome-128 startOutcome-EIA3 tested IV-EIA3
+  begun-EIA3-is = refl
 
-pub once-256-is : (w : ℕ) (key iv m : List ℕ) (l : ℕ) → once-from-256 w (startTag₂₅₆ w key iv) m l ≡ onceOutcome-256 w key iv m l
-unfolding startTag₂₅₆ start₂₅₆ onceOutcome-256
-once-256-is w key iv m l = by (isWidth w) refl
-  where
-    accepted : StartOutcome → Once (List ℕ)
-    accepted o =
-        checked (leb l (length m * 8)) 5 noWords
-        (record { number = 0; tag = tagWords w (closed-ZUC256 (w * 8) (begun-ZUC256 (w * 8) (o .state)) m l) })
-
-    by : (b : Bool) → isWidth w ≡ b
-        → once-from-256 w (require b 1 (require (eqb (length key) 32) 2 (require (eqb (length iv) 23) 3 (record { number = 0; state = started (load₂₅₆ (rowOf w) key iv) })))) m l
-        ≡ checked b 1 noWords
-        (checked (eqb (length key) 32) 2 noWords
-        (checked (eqb (length iv) 23) 3 noWords
-        (checked (leb l (length m * 8)) 5 noWords
-        (record { number = 0; tag = tagWords w (tag-ZUC256 (w * 8) (keystream (load₂₅₆ (rowOf w) key iv)) m l) }))))
-    by true e =
-        require-once noWords (eqb (length key) 32) 1 _ accepted _
-        (require-once noWords (eqb (length iv) 23) 2 (record { number = 0; state = started (load₂₅₆ (rowOf w) key iv) }) accepted _
-        (checked-tag noWords (leb l (length m * 8)) 5 _ _
-        (λ f. ap (tagWords w) (once-ZUC256 (width-is w e) (load₂₅₆ (rowOf w) key iv) m l (leb-true l (length m * 8) f)))))
-    by false e = refl
+  pub once-EIA3-is : (m : List ℕ) (l : ℕ) → onceOutcome-128 key (IV-EIA3 count bearer direction) m l ≡ onceOutcome-EIA3 count bearer direction key m l
+  unfolding onceOutcome-128 onceOutcome-EIA3 tested IV-EIA3
+  once-EIA3-is m l = refl
 
 -- a ZUC-128 or EIA3 state is of width 4
 pub formed-four : (s : Stored) → formed-128 s ≡ true → s .width ≡ 4

@@ -1,44 +1,42 @@
 -- What accepted calls do, from their contracts: the state after any updates is the packing of the joined message's state.
 use mathlib.Core.Bool.{Bool, true, false}
-use mathlib.Core.List.{List}
+use mathlib.Core.List.{List, [], _∷_}
 use mathlib.Core.Path.{_≡_, refl, sym, ap, _∙_}
-use Prim.Native.Nat.{ℕ, zero, suc, _*_, _≤_}
+use Prim.Native.Nat.{ℕ, _*_, _≤_}
 use native.Mathlib.Omega.{arith}
-use lib.Dec.{eqb, leb}
+use lib.Dec.{lit<}
 use lib.ListN.{length}
 use borrow.Author.Tests.{leb-true}
-use Rattle.standard.specs.Notation.{if_then_else_}
 use Rattle.standard.specs.Generator.{started}
-use Rattle.standard.specs.Loading.{load₁₂₈, load₂₅₆}
-use Rattle.standard.specs.Integrity.{IV-EIA3, isWidth}
-use Rattle.keystream.specs.Starts.{StartOutcome, require, rowOf, startTag₂₅₆, start₁₂₈, start₂₅₆}
-use Rattle.mac_registers.specs.Stored.{Stored, Width, packed, taggingOf, zeroStored}
+use Rattle.standard.specs.Loading.{load₁₂₈, load₂₅₆, rowOf}
+use Rattle.standard.specs.Integrity.{IV-EIA3}
+use Rattle.standard.specs.Refusals.{Test, accepted, bitsTest, ivTest, keyTest, stateTest, tested, widthTest}
+use Rattle.standard.specs.States.{Stored, zeroStored}
+use Rattle.standard.proofs.Tested.{AllPass, Numbered, accepted-passed, passed}
+use Rattle.mac_registers.specs.Stored.{packed, taggingOf}
+use Rattle.mac_registers.specs.Inner.{Width}
 use Rattle.mac_registers.specs.Tagging.{Tagging, begun-EIA3, begun-ZUC256, updated}
 use Rattle.mac_registers.proofs.Cutting.{updated-append}
-use Rattle.mac_registers.proofs.Packed.{read-back}
-use Rattle.mac.specs.Calls.{Closing, Outcome, begun-128, begun-256, closing, ifStarted, refusedStart, startOutcome-128, startOutcome-256, startOutcome-EIA3, updateOutcome}
-use Rattle.mac.proofs.Accepted.{accepted-width}
+use Rattle.mac_registers.proofs.Packed.{read-back, width-is}
+use Rattle.mac.specs.Calls.{Closing, Outcome, begunTag-128, begunTag-256, closing, refusedTag, startOutcome-128, startOutcome-256, startOutcome-EIA3, updateOutcome}
 use Rattle.mac.specs.Runs.{Updates, joined, more, none}
 
 -- an accepted update and an accepted closing, told by their definitions
-pub update-accepted : (b : Bool) (s : Stored) (m : List ℕ) → updateOutcome b s m .number ≡ 0
-    → updateOutcome b s m .state ≡ packed (s .width) (updated (s .width * 8) (taggingOf s) m)
-unfolding updateOutcome
+pub update-accepted : (ok : Bool) (s : Stored) (m : List ℕ) → updateOutcome ok s m .number ≡ 0
+    → updateOutcome ok s m .state ≡ packed (s .width) (updated (s .width * 8) (taggingOf s) m)
+unfolding updateOutcome tested
 update-accepted true s m e = refl
 update-accepted false s m e = absurd (omega arith)
 
-pub closing-accepted : {Tag : Type 0} (empty : Tag) (b : Bool) (s : Stored) (tail : List ℕ) (l : ℕ) (tag : Tag) → closing empty b s tail l tag .number ≡ 0
-    → (l ≤ length tail * 8) × (closing empty b s tail l tag .tag ≡ tag)
+pub closing-accepted : {Tag : Type 0} (empty : Tag) (ok : Bool) (s : Stored) (tail : List ℕ) (l : ℕ) (tag : Tag) → closing empty ok s tail l tag .number ≡ 0
+    → (l ≤ length tail * 8) × (closing empty ok s tail l tag .tag ≡ tag)
 unfolding closing
-closing-accepted {Tag} empty true s tail l tag e = by (leb l (length tail * 8)) refl e
-  where
-    picked : Bool → Closing Tag
-    picked d = if d then record { number = 0; tag = tag; state = zeroStored } else record { number = 5; tag = empty; state = s }
-
-    by : (d : Bool) → leb l (length tail * 8) ≡ d → picked d .number ≡ 0 → (l ≤ length tail * 8) × (picked d .tag ≡ tag)
-    by true f h = (leb-true l (length tail * 8) f, refl)
-    by false f h = absurd (omega arith)
-closing-accepted empty false s tail l tag e = absurd (omega arith)
+closing-accepted {Tag} empty ok s tail l tag e =
+    let refused : ℕ → Closing Tag = λ n. record { number = n; tag = empty; state = s } in
+    let closed : Closing Tag = record { number = accepted; tag = tag; state = zeroStored } in
+    let tests : List Test = stateTest ok ∷ bitsTest l tail ∷ [] in
+    let all : AllPass tests = accepted-passed (λ (o : Closing Tag). o .number) refused (λ n. refl) closed tests (lit< tt, (lit< tt, tt)) e in
+    (leb-true l (length tail * 8) (all .1 .0), ap (λ (o : Closing Tag). o .tag) (passed tests refused closed all))
 
 -- a packed state, stepped
 pub at-state : {A : Type 0} (F : ℕ → Tagging → A) {w : ℕ} → Width w → (st : Tagging) {s : Stored} → s ≡ packed w st → F (s .width) (taggingOf s) ≡ F w st
@@ -59,64 +57,29 @@ updates-are {test} {w} v {s} (more {part = part} {parts = parts} o told ok rest)
         ∙ update-accepted (test s) s part (ap (λ (x : Outcome). x .number) (sym told) ∙ ok)
         ∙ at-state (λ x y. packed x (updated (x * 8) y part)) v st e
 
--- accepted starts
-require-state : (test : Bool) (n : ℕ) (o : StartOutcome) → require test (suc n) o .number ≡ 0 → require test (suc n) o ≡ o
-require-state true n o e = refl
-require-state false n o e = absurd (omega arith)
+-- an accepted start passed its tests, and is begun over what was loaded
+module _ (tests : List Test) (low : Numbered tests) (begun start : Outcome) (told : start ≡ tested tests refusedTag begun) (ok : start .number ≡ 0) where
+  all-passed : AllPass tests
+  all-passed = accepted-passed (λ (o : Outcome). o .number) refusedTag (λ n. refl) begun tests low (ap (λ (o : Outcome). o .number) (sym told) ∙ ok)
 
-require-inner : (test : Bool) (n : ℕ) (o : StartOutcome) → require test (suc n) o .number ≡ 0 → o .number ≡ 0
-require-inner test n o e = ap (λ (x : StartOutcome). x .number) (sym (require-state test n o e)) ∙ e
-
--- the number of a tag start is that of the keystream's start
-begun-number : (o : StartOutcome) → begun-128 o .number ≡ 0 → o .number ≡ 0
-begun-number o e = by (o .number) e
-  where
-    by : (n : ℕ) → ifStarted n (record { number = 0; state = packed 4 (begun-EIA3 (o .state)) }) refusedStart .number ≡ 0 → n ≡ 0
-    by zero h = refl
-    by (suc n) h = absurd (omega arith)
-
-begun-number-256 : (w : ℕ) (o : StartOutcome) → begun-256 w o .number ≡ 0 → o .number ≡ 0
-begun-number-256 w o e = by (o .number) e
-  where
-    by : (n : ℕ) → ifStarted n (record { number = 0; state = packed w (begun-ZUC256 (w * 8) (o .state)) }) refusedStart .number ≡ 0 → n ≡ 0
-    by zero h = refl
-    by (suc n) h = absurd (omega arith)
-
-loaded-128 : (key iv : List ℕ) → start₁₂₈ key iv .number ≡ 0 → start₁₂₈ key iv ≡ record { number = 0; state = started (load₁₂₈ key iv) }
-unfolding start₁₂₈
-loaded-128 key iv e = require-state (eqb (length key) 16) 1 _ e ∙ require-state (eqb (length iv) 16) 2 _ (require-inner (eqb (length key) 16) 1 _ e)
-
--- the state of an accepted start of ZUC-128, with any IV
-from-128 : (key iv : List ℕ) (start : Outcome) → start ≡ begun-128 (start₁₂₈ key iv) → start .number ≡ 0
-    → start .state ≡ packed 4 (begun-EIA3 (started (load₁₂₈ key iv)))
-from-128 key iv start e z =
-    ap (λ (x : Outcome). x .state) e
-    ∙ ap (λ (o : StartOutcome). begun-128 o .state) (loaded-128 key iv (begun-number (start₁₂₈ key iv) (ap (λ (x : Outcome). x .number) (sym e) ∙ z)))
+  state-begun : start .state ≡ begun .state
+  state-begun = ap (λ (o : Outcome). o .state) (told ∙ passed tests refusedTag begun all-passed)
 
 pub start-128 : (key iv : List ℕ) (start : Outcome) → start ≡ startOutcome-128 key iv → start .number ≡ 0
     → start .state ≡ packed 4 (begun-EIA3 (started (load₁₂₈ key iv)))
 unfolding startOutcome-128
-start-128 = from-128
+start-128 key iv start = state-begun (keyTest 16 key ∷ ivTest 16 iv ∷ []) (lit< tt, (lit< tt, tt)) (begunTag-128 (load₁₂₈ key iv)) start
 
 pub start-EIA3 : (count bearer direction : ℕ) (key : List ℕ) (start : Outcome) → start ≡ startOutcome-EIA3 count bearer direction key → start .number ≡ 0
     → start .state ≡ packed 4 (begun-EIA3 (started (load₁₂₈ key (IV-EIA3 count bearer direction))))
 unfolding startOutcome-EIA3
-start-EIA3 count bearer direction key = from-128 key (IV-EIA3 count bearer direction)
+start-EIA3 count bearer direction key start = state-begun (keyTest 16 key ∷ []) (lit< tt, tt) (begunTag-128 (load₁₂₈ key (IV-EIA3 count bearer direction))) start
 
 pub start-256 : (w : ℕ) (key iv : List ℕ) (start : Outcome) → start ≡ startOutcome-256 w key iv → start .number ≡ 0
     → Width w × (start .state ≡ packed w (begun-ZUC256 (w * 8) (started (load₂₅₆ (rowOf w) key iv))))
-unfolding startOutcome-256 startTag₂₅₆ start₂₅₆
-start-256 w key iv start e z = (
-  accepted-width w key iv number,
-  ap (λ (x : Outcome). x .state) e
-      ∙ ap (λ (o : StartOutcome). begun-256 w o .state)
-      (require-state (isWidth w) 0 _ number
-      ∙ require-state (eqb (length key) 32) 1 _ inner
-      ∙ require-state (eqb (length iv) 23) 2 _ (require-inner (eqb (length key) 32) 1 _ inner)),
-)
-  where
-    number : startTag₂₅₆ w key iv .number ≡ 0
-    number = begun-number-256 w (startTag₂₅₆ w key iv) (ap (λ (x : Outcome). x .number) (sym e) ∙ z)
-
-    inner : start₂₅₆ (rowOf w) key iv .number ≡ 0
-    inner = require-inner (isWidth w) 0 (start₂₅₆ (rowOf w) key iv) number
+unfolding startOutcome-256
+start-256 w key iv start e z =
+    let tests : List Test = widthTest w ∷ keyTest 32 key ∷ ivTest 23 iv ∷ [] in
+    let low : Numbered tests = (lit< tt, (lit< tt, (lit< tt, tt))) in
+    let begun : Outcome = begunTag-256 w (load₂₅₆ (rowOf w) key iv) in
+    (width-is w (all-passed tests low begun start e z .0), state-begun tests low begun start e z)

@@ -7,17 +7,18 @@ use Prim.Native.Nat.{ℕ, _*_, _<_, _≤_}
 use lib.Bits.{bitXor}
 use lib.ListN.{length}
 use Rattle.standard.specs.Notation.{_⊕_}
-use Rattle.standard.specs.Bits.{M, z}
+use Rattle.standard.specs.Bits.{M, differs, z}
 use Rattle.standard.specs.Generator.{State, keystream, started, wordAt}
 use Rattle.standard.specs.Integrity.{IV-EIA3, T, tag-EIA3, tag-ZUC256}
-use Rattle.standard.specs.Loading.{load₁₂₈, load₂₅₆}
+use Rattle.standard.specs.Loading.{load₁₂₈, load₂₅₆, rowOf}
 use Rattle.standard.proofs.Linear.{EIA3-three, EIA3-two, M-xor₃, ZUC256-three, ZUC256-two, xorBytes}
-use Rattle.keystream.specs.Starts.{rowOf}
-use Rattle.mac_registers.specs.Stored.{Width, formed, packed, tagOf, tagWords, taggingOf}
+use Rattle.mac_registers.specs.Stored.{packed, tagOf, tagWords, taggingOf}
+use Rattle.mac_registers.specs.Inner.{Width}
+use Rattle.standard.specs.States.{formed, formed-128}
 use Rattle.mac_registers.specs.Tagging.{begun-EIA3, begun-ZUC256, closed-EIA3, closed-ZUC256, updated}
 use Rattle.mac_registers.proofs.Packed.{tag-back, width-whole}
 use Rattle.mac_tagging.proofs.Rule.{rule-EIA3, rule-ZUC256}
-use Rattle.mac.specs.Calls.{Closing, Outcome, closing, finishOutcome-128, finishOutcome-256, formed-128, noWords, startOutcome-128, startOutcome-256, startOutcome-EIA3}
+use Rattle.mac.specs.Calls.{Closing, Outcome, closing, finishOutcome-128, finishOutcome-256, noWords, startOutcome-128, startOutcome-256, startOutcome-EIA3}
 use Rattle.mac.specs.Runs.{Tagged-128, Tagged-256, joined}
 use Rattle.mac.proofs.Outcomes.{stream-is}
 use Rattle.mac.proofs.Runs.{at-state, closing-accepted, start-128, start-256, start-EIA3, updates-are}
@@ -46,7 +47,7 @@ module _ (loaded : State) (start : Outcome) (begun : start .number ≡ 0 → sta
 
   -- two messages of one length
   pub two-128 : {m n : List ℕ} {L t u : ℕ} → Tagged-128 start m L t → Tagged-128 start n L u
-      → t ⊕ u ≡ T 32 (z (keystream loaded)) 0 (λ i. M m i ⊕ M n i) L
+      → t ⊕ u ≡ T 32 (z (keystream loaded)) 0 (differs m n) L
   two-128 {m} {n} {L} r q = ap₂ bitXor (tag-128 r) (tag-128 q) ∙ EIA3-two (keystream loaded) L m n
 
   -- three messages of one length, and a fourth that is bit for bit their xor
@@ -81,7 +82,7 @@ module _ (loaded : State) (w : ℕ) (v : Width w) (start : Outcome)
       after = updates-are v (r .updates) (begun-ZUC256 (w * 8) (started loaded)) (begun (r .started))
 
   pub two-256 : {m n : List ℕ} {L t u : ℕ} → Tagged-256 w start m L t → Tagged-256 w start n L u
-      → t ⊕ u ≡ T (w * 8) (z (keystream loaded)) (w * 8) (λ i. M m i ⊕ M n i) L
+      → t ⊕ u ≡ T (w * 8) (z (keystream loaded)) (w * 8) (differs m n) L
   two-256 {m} {n} {L} r q = ap₂ bitXor (tag-256 r) (tag-256 q) ∙ ZUC256-two (w * 8) (keystream loaded) L m n
 
   pub three-256 : {a b c x : List ℕ} {L t u s y : ℕ} → Tagged-256 w start a L t → Tagged-256 w start b L u → Tagged-256 w start c L s → Tagged-256 w start x L y
@@ -95,7 +96,7 @@ module _ (key iv : List ℕ) (start : Outcome) (told : start ≡ startOutcome-12
   rule-zuc128 = tag-128 (load₁₂₈ key iv) start (start-128 key iv start told)
 
   pub differ-zuc128 : {m n : List ℕ} {L t u : ℕ} → Tagged-128 start m L t → Tagged-128 start n L u
-      → t ⊕ u ≡ T 32 (z (keystream (load₁₂₈ key iv))) 0 (λ i. M m i ⊕ M n i) L
+      → t ⊕ u ≡ T 32 (z (keystream (load₁₂₈ key iv))) 0 (differs m n) L
   differ-zuc128 = two-128 (load₁₂₈ key iv) start (start-128 key iv start told)
 
   pub xor-zuc128 : {a b c x : List ℕ} {L t u v w : ℕ} → Tagged-128 start a L t → Tagged-128 start b L u → Tagged-128 start c L v → Tagged-128 start x L w
@@ -111,7 +112,7 @@ module _ (count bearer direction : ℕ) (key : List ℕ) (start : Outcome) (told
   rule-eia3 = tag-128 loaded-EIA3 start (start-EIA3 count bearer direction key start told)
 
   pub differ-eia3 : {m n : List ℕ} {L t u : ℕ} → Tagged-128 start m L t → Tagged-128 start n L u
-      → t ⊕ u ≡ T 32 (z (keystream loaded-EIA3)) 0 (λ i. M m i ⊕ M n i) L
+      → t ⊕ u ≡ T 32 (z (keystream loaded-EIA3)) 0 (differs m n) L
   differ-eia3 = two-128 loaded-EIA3 start (start-EIA3 count bearer direction key start told)
 
   pub xor-eia3 : {a b c x : List ℕ} {L t u v w : ℕ} → Tagged-128 start a L t → Tagged-128 start b L u → Tagged-128 start c L v → Tagged-128 start x L w
@@ -127,7 +128,7 @@ module _ (w : ℕ) (key iv : List ℕ) (start : Outcome) (told : start ≡ start
   rule-zuc256 r = tag-256 loaded-256 w (start-256 w key iv start told (r .started) .0) start (λ e. start-256 w key iv start told e .1) r
 
   pub differ-zuc256 : {m n : List ℕ} {L t u : ℕ} → Tagged-256 w start m L t → Tagged-256 w start n L u
-      → t ⊕ u ≡ T (w * 8) (z (keystream loaded-256)) (w * 8) (λ i. M m i ⊕ M n i) L
+      → t ⊕ u ≡ T (w * 8) (z (keystream loaded-256)) (w * 8) (differs m n) L
   differ-zuc256 r q = two-256 loaded-256 w (start-256 w key iv start told (r .started) .0) start (λ e. start-256 w key iv start told e .1) r q
 
   pub xor-zuc256 : {a b c x : List ℕ} {L t u s y : ℕ} → Tagged-256 w start a L t → Tagged-256 w start b L u → Tagged-256 w start c L s → Tagged-256 w start x L y

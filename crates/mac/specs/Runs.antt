@@ -4,8 +4,9 @@ use mathlib.Core.List.{List, [], _∷_, _++_}
 use mathlib.Core.Path.{_≡_}
 use Prim.Native.Nat.{ℕ, _+_, _*_}
 use lib.ListN.{length}
-use Rattle.mac_registers.specs.Stored.{Stored, formed, tagOf}
-use Rattle.mac.specs.Calls.{Closing, Outcome, finishOutcome-128, finishOutcome-256, formed-128, updateOutcome}
+use Rattle.mac_registers.specs.Stored.{tagOf}
+use Rattle.standard.specs.States.{Stored, formed, formed-128}
+use Rattle.mac.specs.Calls.{Closing, Outcome, finishOutcome-128, finishOutcome-256, updateOutcome}
 
 -- updates one after the other, each accepted: o is what is told of a call's result, equal to what the contract says
 pub data Updates (test : Stored → Bool) : Stored → List (List ℕ) → Stored → Type 0 where

@@ -2,8 +2,11 @@
 ghost use mathlib.Core.Bool.{true};
 ghost use mathlib.Core.Path.{_≡_};
 ghost use Rattle.keystream.specs.Starts.{startTold};
-ghost use Rattle.mac.specs.Calls.{Ready, begun-128, formed-128, once-from-128, onceTold-128, startTold-128, updateOutcome, updateTold};
-ghost use Rattle.mac_registers.specs.Stored.{Held, storedOf, zeroStored};
+ghost use Rattle.mac.specs.Calls.{onceTold-128, startTold-128, updateOutcome, updateTold};
+ghost use Rattle.mac.specs.Inner.{Ready, begun-128, once-from-128};
+ghost use Rattle.standard.specs.States.{formed-128, zeroStored};
+ghost use Rattle.mac_registers.specs.Inner.{Held};
+ghost use Rattle.mac_registers.specs.Stored.{storedOf};
 use keystream::Start;
 use keystream::StartAnswer;
 use mac_registers::TagState;
@@ -182,8 +185,7 @@ fn tag_from(start: Start, message: &[u8], l: usize) -> Once128
             let state = begin_128(&t0, &t1, g);
             Once128::Tag(close_128(&t0, &t1, state, message, l))
         }
-        StartAnswer::BadWidth => Once128::BadKey,
-        StartAnswer::BadKey => Once128::BadKey,
         StartAnswer::BadIv => Once128::BadIv,
+        _ => Once128::BadKey,
     }
 }

@@ -1,6 +1,7 @@
 // ZUC-128 tags. An EIA3 tag is updated and closed by the same calls.
 ghost use mathlib.Core.Path.{_≡_};
-ghost use Rattle.mac.specs.Calls.{finishOutcome-128, finishTold-128, formed-128, onceOutcome-128, onceTold-128, startOutcome-128, startTold-128, updateOutcome, updateTold-128};
+ghost use Rattle.mac.specs.Calls.{finishOutcome-128, finishTold-128, onceOutcome-128, onceTold-128, startOutcome-128, startTold-128, updateOutcome, updateTold-128};
+ghost use Rattle.standard.specs.States.{formed-128};
 ghost use Rattle.mac_registers.specs.Stored.{storedOf};
 use super::Finish128;
 use super::Mac128;

@@ -1,7 +1,8 @@
 // ZUC-256 tags of 4, 8 and 16 bytes.
 ghost use mathlib.Core.Path.{_≡_};
 ghost use Rattle.mac.specs.Calls.{finishOutcome-256, finishTold-256, onceOutcome-256, onceTold-256, startOutcome-256, startTold-256, updateOutcome, updateTold-256};
-ghost use Rattle.mac_registers.specs.Stored.{formed, storedOf, zeroStored};
+ghost use Rattle.mac_registers.specs.Stored.{storedOf};
+ghost use Rattle.standard.specs.States.{formed, zeroStored};
 use super::Finish256;
 use super::Mac256;
 use super::Once256;

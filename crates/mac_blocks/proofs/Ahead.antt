@@ -8,18 +8,19 @@ use native.Mathlib.Nat.{zero-add}
 use lib.ListN.{drop, getD, length, length-append, take}
 use lib.Seq.{length-take-le, take-all, take-at}
 use Rattle.standard.specs.Bits.{bitAt, bitOf, window, z}
-use Rattle.standard.specs.Generator.{State, _⟨_⟩, after, wordAt}
-use Rattle.standard.specs.Loading.{listed}
+use Rattle.standard.specs.Generator.{State, after, wordAt}
 use Rattle.standard.proofs.Listed.{getD-listed, length-listed}
 use Rattle.standard.proofs.Window.{window-cell, window-cells, window-ext, window-split}
 use Rattle.standard.proofs.Generator.{after-after, after-none}
-use Rattle.standard.specs.Notation.{_⊕_}
+use Rattle.standard.specs.Notation.{_⊕_, _⟨_⟩, listed}
 use Rattle.standard.specs.Bits.{M}
 use Rattle.standard.specs.Integrity.{T}
 use Rattle.standard.proofs.Window.{window-lt}
-use Rattle.mac_registers.specs.Stored.{Good, Held, Stored, Width, _‖₆₄_, fresh, keyOf, keyWords, packed, tagOf, tagWords, taggingOf}
+use Rattle.mac_registers.specs.Stored.{_‖₆₄_, keyOf, keyWords, packed, tagOf, tagWords, taggingOf}
+use Rattle.mac_registers.specs.Inner.{Good, Held, Width, fresh}
+use Rattle.standard.specs.States.{Stored}
 use Rattle.mac_registers.specs.Tagging.{updated}
-use Rattle.mac_blocks.specs.Whole.{bitsOf, emptyOf}
+use Rattle.mac_blocks.specs.InnerWhole.{bitsOf, emptyOf}
 use Rattle.mac_registers.proofs.Cutting.{updated-on}
 use Rattle.mac_registers.proofs.Message.{window-after, z-lt}
 use Rattle.mac_registers.proofs.Packed.{at-packed, good-updated, held-as, tag-back, width-whole}

@@ -9,7 +9,9 @@ use Rattle.standard.specs.Bits.{M, bitOf, window, z}
 use Rattle.standard.specs.Generator.{State, after, wordAt}
 use Rattle.standard.specs.Integrity.{T}
 use Rattle.standard.proofs.Window.{window-lt}
-use Rattle.mac_registers.specs.Stored.{Held, Stored, Width, Words, fresh, keyOf, keyWords, packed, tagOf, tagWords, taggingOf}
+use Rattle.mac_registers.specs.Stored.{keyOf, keyWords, packed, tagOf, tagWords, taggingOf}
+use Rattle.mac_registers.specs.Inner.{Held, Width, Words, fresh}
+use Rattle.standard.specs.States.{Stored}
 use Rattle.mac_registers.specs.Tagging.{fed, updated}
 use Rattle.mac_registers.proofs.Cutting.{updated-block}
 use Rattle.mac_registers.proofs.Message.{z-lt}

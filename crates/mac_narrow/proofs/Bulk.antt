@@ -9,10 +9,11 @@ use lib.Seq.{length-take-le}
 use Rattle.standard.proofs.Generator.{after-after, wordAt-after, wordAt-lt}
 use Rattle.standard.proofs.Window.{window-cell}
 use Rattle.standard.specs.Bits.{M, window, z}
-use Rattle.standard.specs.Generator.{State, _⟨_⟩, after, wordAt}
-use Rattle.standard.specs.Notation.{_⊕_}
-use Rattle.mac_registers.specs.Lookup.{summed}
-use Rattle.mac_registers.specs.Stored.{Stored, keyOf, keyWords, packed, tagOf, tagWords, taggingOf}
+use Rattle.standard.specs.Generator.{State, after, wordAt}
+use Rattle.standard.specs.Notation.{_⊕_, _⟨_⟩}
+use Rattle.mac_registers.specs.InnerLookup.{summed}
+use Rattle.mac_registers.specs.Stored.{keyOf, keyWords, packed, tagOf, tagWords, taggingOf}
+use Rattle.standard.specs.States.{Stored}
 use Rattle.mac_registers.specs.Tagging.{Tagging, fed, updated}
 use Rattle.mac_registers.proofs.Cutting.{updated-block, updated-on}
 use Rattle.mac_registers.proofs.Widths.{moved-up, block-bits}

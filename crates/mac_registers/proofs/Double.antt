@@ -13,7 +13,7 @@ use Rattle.standard.specs.Bits.{bitAt, bitOf, window}
 use Rattle.standard.specs.Integrity.{T}
 use Rattle.standard.proofs.Sum.{sum-ext, sum-join, sum-split}
 use Rattle.standard.proofs.Window.{bit-window, bitAt-lt, bitOf-lt, window-cell, window-ext, window-split}
-use Rattle.mac_registers.specs.Lookup.{between, multiplesOf, summed, wideLookedUp}
+use Rattle.mac_registers.specs.InnerLookup.{between, multiplesOf, summed, wideLookedUp}
 use Rattle.mac_registers.proofs.Lookup.{looked-is}
 
 -- a sum reads only the pair at its place

@@ -7,15 +7,14 @@ use native.Mathlib.Nat.{div-one, zero-add, zero-div}
 use lib.ListN.{getD}
 use lib.Bits.{bitXor, xor-mod, xor-shr, xor-zero-l, xor-zero-r}
 use lib.Pow.{shr-shr}
-use Rattle.standard.specs.Notation.{_⊕_}
+use Rattle.standard.specs.Notation.{_⊕_, listed}
 use Rattle.standard.specs.Bits.{bitOf, window}
-use Rattle.standard.specs.Loading.{listed}
 use Rattle.standard.specs.Integrity.{T, whereSet}
 use Rattle.standard.proofs.Listed.{getD-listed}
 use Rattle.standard.proofs.Sum.{sum-split}
 use Rattle.standard.proofs.Window.{window-bitOf}
 use Rattle.standard.proofs.Xor.{xor-assoc}
-use Rattle.mac_registers.specs.Lookup.{byteLookedUp, lookedUp, multiple, multiplesOf, summed}
+use Rattle.mac_registers.specs.InnerLookup.{byteLookedUp, lookedUp, multiple, multiplesOf, summed}
 
 whereSet-field : (b x q : ℕ) → whereSet b x / 2 ^ q % 2 ^ 32 ≡ whereSet b (x / 2 ^ q % 2 ^ 32)
 whereSet-field zero x q = ap (λ (y : ℕ). y % 2 ^ 32) (zero-div (2 ^ q))

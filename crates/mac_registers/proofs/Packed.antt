@@ -16,14 +16,17 @@ use lib.Bits.{xor-lt}
 use lib.Pow.{split}
 use borrow.Author.Tests.{eq-eqb, eqb-true, lt-ltb, ltb-true, ne-eqb}
 use Rattle.standard.specs.Bits.{M, bitOf, z}
-use Rattle.standard.specs.Generator.{State, _⟨_⟩, wellFormed, wordAt}
+use Rattle.standard.specs.Generator.{State, wordAt}
+use Rattle.standard.specs.States.{wellFormed, Stored, allZero, formed, unused}
+use Rattle.standard.specs.Notation.{_⟨_⟩}
 use Rattle.standard.specs.Integrity.{T, isWidth}
 use Rattle.standard.proofs.Cells.{cells-wellFormed, wellFormed-cells}
 use Rattle.standard.proofs.Generator.{Sound, sound-after}
 use Rattle.standard.proofs.Sum.{sum-lt}
 use Rattle.standard.proofs.Window.{bitOf-lt, window-lt}
 use Rattle.mac_registers.specs.Tagging.{Tagging, absorbed, begun-EIA3, begun-ZUC256, fed, updated}
-use Rattle.mac_registers.specs.Stored.{Good, Held, Stored, Width, allZero, formed, keyOf, keyWords, packed, tagOf, tagWords, taggingOf, unused}
+use Rattle.mac_registers.specs.Stored.{keyOf, keyWords, packed, tagOf, tagWords, taggingOf}
+use Rattle.mac_registers.specs.Inner.{Good, Held, Width}
 use Rattle.mac_registers.proofs.Message.{z-lt}
 use Rattle.mac_registers.proofs.Cutting.{absorbed-fills, absorbed-waits}
 use Rattle.mac_registers.proofs.Widths.{tag-words-16, words-16, words-8}

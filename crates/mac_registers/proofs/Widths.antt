@@ -8,17 +8,18 @@ use native.Mathlib.Nat.{add-zero, lt-of-lt-of-le, mod-eq-of-lt, mul-mod-left, po
 use lib.Arith.{digits-lt}
 use lib.Bits.{xor-block, xor-lt}
 use lib.Pow.{high, low, mod-pow-add, shl-shr, shr-lt}
-use Rattle.standard.specs.Notation.{_⊕_}
+use Rattle.standard.specs.Notation.{_⊕_, _⟨_⟩}
 use Rattle.standard.specs.Bits.{M, bitOf, window, z}
-use Rattle.standard.specs.Generator.{State, _⟨_⟩, after, next, wordAt}
+use Rattle.standard.specs.Generator.{State, after, next, wordAt}
 use Rattle.standard.specs.Integrity.{T}
 use Rattle.standard.proofs.Generator.{wordAt-lt}
 use Rattle.standard.proofs.Linear.{M-lt}
 use Rattle.standard.proofs.Sum.{sum-ext}
 use Rattle.standard.proofs.Window.{bit-window, window-cell, window-cells, window-lt, window-split}
 use borrow.Author.Tests.{ne-eqb}
-use Rattle.mac_registers.specs.Lookup.{between, summed}
-use Rattle.mac_registers.specs.Stored.{Width, _‖₁₂₈_, _‖₆₄_, fresh, keyOf, keyWords, tagOf, tagWords}
+use Rattle.mac_registers.specs.InnerLookup.{between, summed}
+use Rattle.mac_registers.specs.Stored.{_‖₁₂₈_, _‖₆₄_, keyOf, keyWords, tagOf, tagWords}
+use Rattle.mac_registers.specs.Inner.{Width, fresh}
 use Rattle.mac_registers.proofs.Message.{z-lt}
 
 -- a key pair moved up by t bits is its low half on high

@@ -1,4 +1,5 @@
 pub mod Tagging
 pub mod Stored
-pub mod Lookup
-pub mod Blocks
+pub mod Inner
+pub mod InnerLookup
+pub mod InnerBlocks

@@ -1,11 +1,12 @@
--- A tag in the making at t bits, as numbers, and what starts, message bytes and closings do to it (document 01, "Tags").
+-- The running rule: a tag in the making at t bits, as numbers, and what starts, message bytes and closings do to it. Nobody need believe it:
+-- the theorems rule-… of mac/proofs/Theorems.antt say that a start, updates and a closing give the standard's tag.
 use mathlib.Core.List.{List, [], _∷_, _++_}
 use Prim.Native.Nat.{ℕ, suc, _+_, _-_, _*_, _/_, _%_, _^_}
 use lib.Dec.{eqb, ltb}
-use lib.ListN.{drop, getD, length, take}
+use lib.ListN.{drop, length, take}
 use Rattle.standard.specs.Notation.{_⊕_, if_then_else_}
 use Rattle.standard.specs.Bits.{M, bitOf, window, z}
-use Rattle.standard.specs.Generator.{State, after, next, word, wordAt}
+use Rattle.standard.specs.Generator.{State, after, word, wordAt}
 use Rattle.standard.specs.Integrity.{T}
 
 -- the generator, the key pair (the next 2t keystream bits to use), the tag of t bits, and the bytes that wait for a block
@@ -28,10 +29,6 @@ begun-ZUC256 t σ =
       tag = window (z (wordAt σ)) 0 t;
       waiting = [];
     }
-
--- what both have: a tag, and the next 2t bits in the key pair
-unfoldable pub begun : ℕ → ℕ → State → Tagging
-begun t tag σ = record { generator = after (2 * (t / 32)) σ; key = window (z (wordAt σ)) 0 (t + t); tag = tag; waiting = [] }
 
 -- a block of t message bits: the key pair's windows at its set bits go into the tag, and the key pair moves on by t bits
 unfoldable pub fed : ℕ → Tagging → List ℕ → Tagging
@@ -75,13 +72,5 @@ closed-ZUC256 t st tail l = lastTag t (ended t st tail l) (drop (l / 8) tail) (l
 unfoldable pub extraWord : Tagging → ℕ → ℕ
 extraWord st n = if eqb n 0 then st .key % 2 ^ 32 else word (st .generator)
 
--- the generator after that word
-unfoldable pub extraState : Tagging → ℕ → State
-extraState st n = if eqb n 0 then st .generator else next (st .generator)
-
 unfoldable pub closed-EIA3 : Tagging → List ℕ → ℕ → ℕ
 closed-EIA3 st tail l = closed-ZUC256 32 st tail l ⊕ extraWord (ended 32 st tail l) (leftOver (ended 32 st tail l) l)
-
--- the byte that closes a message, by the byte after it and the r bits of it that are the message's: a set bit stands after them
-unfoldable pub lastByte : List ℕ → ℕ → ℕ
-lastByte rest r = if eqb r 0 then 128 else (getD rest 0 0 / 2 ^ (8 - r) * 2 + 1) * 2 ^ (7 - r)

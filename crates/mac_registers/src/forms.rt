@@ -4,7 +4,9 @@ ghost use mathlib.Core.Bool.{true};
 ghost use mathlib.Core.Path.{_≡_};
 ghost use Prim.Native.Nat.{};
 ghost use Rattle.standard.specs.Integrity.{isWidth};
-ghost use Rattle.mac_registers.specs.Stored.{Held, allZero, formed, storedOf, unused, zeroStored};
+ghost use Rattle.mac_registers.specs.Stored.{storedOf};
+ghost use Rattle.mac_registers.specs.Inner.{Held};
+ghost use Rattle.standard.specs.States.{allZero, formed, unused, zeroStored};
 use zuc::Zuc;
 
 fn is_width(width: usize) -> bool

@@ -3,7 +3,7 @@ ghost use lib.ListN.{length};
 ghost use mathlib.Core.Path.{_≡_};
 ghost use Prim.Native.Nat.{_+_, _*_, _≤_, _^_};
 ghost use Rattle.standard.specs.Bits.{M, window};
-ghost use Rattle.mac_registers.specs.Lookup.{between, byteLookedUp, lookedUp, multiplesOf, summed, wideLookedUp};
+ghost use Rattle.mac_registers.specs.InnerLookup.{between, byteLookedUp, lookedUp, multiplesOf, summed, wideLookedUp};
 ghost use Rattle.mac_registers.specs.Stored.{_‖₆₄_, _‖₁₂₈_};
 
 // The pair's multiples by each of sixteen numbers of four bits: the bit worth 8 is the first, so it stands for the window highest up.

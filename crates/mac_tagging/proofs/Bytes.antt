@@ -6,9 +6,11 @@ use native.Mathlib.Omega.{arith}
 use native.Mathlib.Nat.{suc-mul, zero-mul}
 use lib.ListN.{drop, getD, length, length-append, replicate, set, take}
 use lib.Seq.{append-snoc, drop-cons, set-at, take-all, take-at}
-use Rattle.mac_registers.specs.Stored.{Held, Stored, packed, taggingOf}
+use Rattle.mac_registers.specs.Stored.{packed, taggingOf}
+use Rattle.mac_registers.specs.Inner.{Held}
+use Rattle.standard.specs.States.{Stored}
 use Rattle.mac_registers.specs.Tagging.{absorbed, fed, updated}
-use Rattle.mac_registers.specs.Blocks.{Blocks}
+use Rattle.mac_registers.specs.InnerBlocks.{Blocks}
 use Rattle.mac_registers.proofs.Cutting.{absorbed-fills, absorbed-waits}
 use Rattle.mac_blocks.proofs.Moves.{block-is, cnt-is, cnt-lt, cnt-most, emptied, emptied-held}
 

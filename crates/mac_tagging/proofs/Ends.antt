@@ -4,16 +4,17 @@ use mathlib.Core.List.{List, _++_}
 use Prim.Native.Nat.{ℕ, _+_, _*_, _/_, _%_, _^_, _<_}
 use lib.Bits.{bitXor, xor-lt}
 use lib.ListN.{drop, length, take}
-use Rattle.standard.specs.Notation.{_⊕_}
+use Rattle.standard.specs.Notation.{_⊕_, _⟨_⟩}
 use Rattle.standard.specs.Bits.{M, bitOf, window}
-use Rattle.standard.specs.Generator.{_⟨_⟩}
 use Rattle.standard.specs.Integrity.{T}
 use Rattle.standard.proofs.Sum.{sum-lt}
 use Rattle.standard.proofs.Window.{bitOf-lt, window-lt}
-use Rattle.zuc.specs.Reading.{Draw}
-use Rattle.mac_registers.specs.Stored.{Good, Held, Stored, packed, tagWords, taggingOf}
+use Rattle.zuc.specs.Inner.{Draw}
+use Rattle.mac_registers.specs.Stored.{packed, tagWords, taggingOf}
+use Rattle.mac_registers.specs.Inner.{Good, Held}
+use Rattle.standard.specs.States.{Stored}
 use Rattle.mac_registers.specs.Tagging.{Tagging, closed-EIA3, closed-ZUC256, ended, extraWord, lastTag, leftOver, updated}
-use Rattle.mac_tagging.specs.Steps.{extraDraw}
+use Rattle.mac_tagging.specs.InnerSteps.{extraDraw}
 use Rattle.mac_registers.proofs.Packed.{at-packed, good-updated, held-as}
 use Rattle.mac_blocks.proofs.Moves.{cnt-is}
 

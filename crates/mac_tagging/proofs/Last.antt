@@ -16,7 +16,8 @@ use Rattle.standard.specs.Bits.{M, bitAt, bitOf, window}
 use Rattle.standard.specs.Integrity.{T, whereSet}
 use Rattle.standard.proofs.Sum.{sum-ext, sum-split}
 use Rattle.standard.proofs.Xor.{xor-assoc}
-use Rattle.mac_registers.specs.Tagging.{Tagging, lastByte, lastTag}
+use Rattle.mac_registers.specs.Tagging.{Tagging, lastTag}
+use Rattle.mac_registers.specs.Inner.{lastByte}
 use Rattle.mac_registers.proofs.Message.{M-drop, M-front}
 
 -- a sum over bits that are not set is nothing

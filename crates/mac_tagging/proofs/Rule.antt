@@ -19,7 +19,8 @@ use Rattle.standard.specs.Integrity.{T, drawnAfter-EIA3, drawnAfter-ZUC256, dra
 use Rattle.standard.proofs.Extra.{extra-word, window-word}
 use Rattle.standard.proofs.Generator.{after-more, word-after, wordAt-lt}
 use Rattle.standard.proofs.Window.{window-lt, window-split}
-use Rattle.mac_registers.specs.Tagging.{Tagging, begun-EIA3, begun-ZUC256, closed-EIA3, closed-ZUC256, ended, extraState, extraWord, lastTag, leftOver, updated}
+use Rattle.mac_registers.specs.Tagging.{Tagging, begun-EIA3, begun-ZUC256, closed-EIA3, closed-ZUC256, ended, extraWord, lastTag, leftOver, updated}
+use Rattle.mac_registers.specs.Inner.{extraState}
 use Rattle.mac_registers.proofs.Message.{z-lt}
 use Rattle.mac_registers.proofs.Cutting.{updated-append}
 use Rattle.mac_tagging.proofs.Followed.{Followed, Follows, blocks-are, followed-all, followed-tag}

@@ -10,8 +10,9 @@ use Rattle.standard.specs.Bits.{window, z}
 use Rattle.standard.specs.Generator.{State, after, wordAt}
 use Rattle.standard.proofs.Generator.{after-after}
 use Rattle.standard.proofs.Window.{window-lt, window-split}
-use Rattle.mac_registers.specs.Stored.{Width, Words, fresh, keyOf, keyWords, packed, tagOf, tagWords}
-use Rattle.mac_registers.specs.Tagging.{begun, begun-EIA3, begun-ZUC256}
+use Rattle.mac_registers.specs.Stored.{keyOf, keyWords, packed, tagOf, tagWords}
+use Rattle.mac_registers.specs.Inner.{Width, Words, fresh, begun}
+use Rattle.mac_registers.specs.Tagging.{begun-EIA3, begun-ZUC256}
 use Rattle.mac_registers.proofs.Message.{window-after, z-lt}
 use Rattle.mac_registers.proofs.Widths.{moved-up}
 use Rattle.mac_registers.proofs.Packed.{key-back, width-whole}

@@ -6,10 +6,11 @@ use Prim.Native.Nat.{ℕ, _+_, _*_, _^_, _<_, _≤_}
 use native.Mathlib.Omega.{arith}
 use lib.ListN.{length, getD, set}
 use borrow.Author.Tests.{lt-ltb, le-ltb}
-use Rattle.standard.specs.Confidentiality.{eachFrom, keepHigh}
+use Rattle.standard.specs.Confidentiality.{keepHigh}
+use Rattle.standard.specs.Notation.{eachFrom}
 use Rattle.standard.proofs.Each.{is-each, each-set, place}
 use Rattle.standard.proofs.Kept.{keep-all, keep-none, clean-before, clean-at, clean-after}
-use Rattle.mask.specs.Clearing.{zeroed, cleared}
+use Rattle.mask.specs.Inner.{zeroed, cleared}
 
 pub zeroed-before : (from j byte : ℕ) → j < from → zeroed from j byte ≡ byte
 zeroed-before from j byte h = rw (lt-ltb j from h) refl

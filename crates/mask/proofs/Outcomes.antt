@@ -6,22 +6,25 @@ use Prim.Native.Nat.{ℕ, _*_}
 use lib.Dec.{leb}
 use lib.ListN.{length}
 use Rattle.standard.specs.Confidentiality.{maskClean, wordsToMask}
-use Rattle.standard.specs.Generator.{State, wellFormed, wordAt}
+use Rattle.standard.specs.Refusals.{badBits, badState, tested}
+use Rattle.standard.specs.Generator.{State, wordAt}
+use Rattle.standard.specs.States.{wellFormed}
 use Rattle.standard.proofs.Kept.{crateEnd}
 use Rattle.standard.proofs.Masking.{crate-clean}
-use Rattle.mask.specs.Outcome.{Outcome, refused, drawn, checked, crateOutcome, cleanOutcome, outcomeTo}
+use Rattle.mask.specs.Inner.{outcomeTo}
+use Rattle.mask.specs.Outcome.{Outcome, cleanOutcome, crateOutcome, drawn, maskTested, refused}
 
 module _ (σ : State) (L : ℕ) (buffer : List ℕ) where
-  pub malformed : (o : Outcome) → wellFormed (σ .cells) ≡ false → refused 4 σ buffer ≡ checked σ L buffer o
-  unfolding checked
-  malformed o w = rw w refl
+  pub bad-state : (o : Outcome) → wellFormed (σ .cells) ≡ false → refused σ buffer badState ≡ maskTested σ L buffer o
+  unfolding maskTested tested
+  bad-state o w = rw w refl
 
-  pub too-long : (o : Outcome) → wellFormed (σ .cells) ≡ true → leb L (length buffer * 8) ≡ false → refused 5 σ buffer ≡ checked σ L buffer o
-  unfolding checked
-  too-long o w l = rw (w, l) refl
+  pub bad-bits : (o : Outcome) → wellFormed (σ .cells) ≡ true → leb L (length buffer * 8) ≡ false → refused σ buffer badBits ≡ maskTested σ L buffer o
+  unfolding maskTested tested
+  bad-bits o w l = rw (w, l) refl
 
-  pub accepted : (o : Outcome) {told : Outcome} → wellFormed (σ .cells) ≡ true → leb L (length buffer * 8) ≡ true → told ≡ o → told ≡ checked σ L buffer o
-  unfolding checked
+  pub accepted : (o : Outcome) {told : Outcome} → wellFormed (σ .cells) ≡ true → leb L (length buffer * 8) ≡ true → told ≡ o → told ≡ maskTested σ L buffer o
+  unfolding maskTested tested
   accepted o w l e = rw (w, l) e
 
   pub clean-mode : (end : ℕ) → end ≡ L → outcomeTo end σ L buffer ≡ cleanOutcome σ L buffer
@@ -29,5 +32,5 @@ module _ (σ : State) (L : ℕ) (buffer : List ℕ) where
 
   pub crate-mode : (end : ℕ) → end ≡ crateEnd L → outcomeTo end σ L buffer ≡ crateOutcome σ L buffer
   crate-mode end e =
-      ap (λ (b : List ℕ). checked σ L buffer (drawn (wordsToMask (length buffer)) σ b))
+      ap (λ (b : List ℕ). maskTested σ L buffer (drawn (wordsToMask (length buffer)) σ b))
       (ap (λ (x : ℕ). maskClean (wordAt σ) x buffer) e ∙ sym (crate-clean (wordAt σ) L buffer))

@@ -1,2 +1,2 @@
-pub mod Clearing
+pub mod Inner
 pub mod Outcome

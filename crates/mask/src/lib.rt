@@ -2,9 +2,10 @@
 ghost use mathlib.Core.Path.{_≡_};
 ghost use Prim.Native.Nat.{_≤_, _*_, _+_, _/_, _%_};
 ghost use lib.ListN.{length};
-ghost use Rattle.mask.specs.Clearing.{zeroed, cleared};
-ghost use Rattle.mask.specs.Outcome.{told, outcomeTo, crateOutcome, cleanOutcome};
-ghost use Rattle.standard.specs.Confidentiality.{eachFrom, keepHigh};
+ghost use Rattle.mask.specs.Inner.{zeroed, cleared, outcomeTo};
+ghost use Rattle.mask.specs.Outcome.{told, crateOutcome, cleanOutcome};
+ghost use Rattle.standard.specs.Confidentiality.{keepHigh};
+ghost use Rattle.standard.specs.Notation.{eachFrom};
 ghost use Rattle.zuc.specs.Reading.{stateOf};
 use mask_bulk::mask_all;
 use zuc::Zuc;

@@ -7,9 +7,10 @@ use native.Mathlib.Numerals.{add-one}
 use native.Mathlib.Omega.{arith}
 use lib.Bits.{xor-shr, xor-mod}
 use lib.ListN.{length, getD, take, drop, set, length-take}
-use Rattle.standard.specs.Confidentiality.{eachFrom, masked, byteOf}
+use Rattle.standard.specs.Confidentiality.{masked}
+use Rattle.standard.specs.Bits.{byteOf}
 use Rattle.standard.specs.Generator.{State, after, next, wordAt}
-use Rattle.standard.specs.Notation.{_⊕_, _‖₈_}
+use Rattle.standard.specs.Notation.{_⊕_, _‖₈_, eachFrom}
 use Rattle.standard.proofs.Each.{each-ext, doneFrom, from-lent}
 use Rattle.standard.proofs.Generator.{after-more}
 

@@ -8,7 +8,7 @@ use native.Mathlib.Numerals.{add-one}
 use native.Mathlib.Omega.{arith}
 use lib.ListN.{length, getD, take, drop, set, length-append, length-drop, drop-of-length-le, take-append-drop, length-set}
 use lib.Seq.{length-take-le, drop-cons, take-all, take-at, drop-at, drop-drop, ext-getD, set-split, getD-set-same, getD-set-other}
-use Rattle.standard.specs.Confidentiality.{eachFrom}
+use Rattle.standard.specs.Notation.{eachFrom}
 
 pub length-each : (f : ℕ → ℕ → ℕ) (j : ℕ) (l : List ℕ) → length (eachFrom f j l) ≡ length l
 unfolding eachFrom

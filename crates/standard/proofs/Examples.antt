@@ -4,12 +4,12 @@ use mathlib.Core.List.{List, [], _∷_}
 use mathlib.Core.Path.{_≡_, ap, refl}
 use native.Mathlib.Omega.{arith}
 use Prim.Native.Nat.{ℕ}
-use Rattle.standard.specs.Notation.{_⋘_}
-use Rattle.standard.specs.Bits.{bitOf, bitAt, M, z, window}
+use Rattle.standard.specs.Notation.{_⋘_, eachFrom}
+use Rattle.standard.specs.Bits.{bitOf, bitAt, M, z, window, byteOf}
 use Rattle.standard.specs.Boxes.{S₀-table, S₁-table, S₀, S₁}
 use Rattle.standard.specs.Generator.{v, s₁₆, X₀, X₁, X₂, S, L₁, L₂, W, W₁, W₂, F}
 use Rattle.standard.specs.Loading.{IV₂₅₆}
-use Rattle.standard.specs.Confidentiality.{byteOf, IV-EEA3, masked, keepHigh, keptByCrate, keptByClean, eachFrom, maskedBuffer}
+use Rattle.standard.specs.Confidentiality.{IV-EEA3, masked, keepHigh, keptByCrate, keptByClean, maskedBuffer}
 use Rattle.standard.specs.Integrity.{IV-EIA3, T, tag-EIA3, tag-ZUC256}
 use Rattle.standard.specs.Examples.{bytes, examples, given, number, required}
 

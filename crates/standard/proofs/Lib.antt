@@ -11,4 +11,6 @@ pub mod Sum
 pub mod Extra
 pub mod Linear
 pub mod Listed
+pub mod Tested
+pub mod Promise
 pub mod Examples

@@ -7,7 +7,7 @@ use native.Mathlib.Omega.{arith}
 use lib.ListN.{getD}
 use lib.Bits.{bitXor, differ, xor-comm, xor-self, xor-lt, xor-zero-r, xor-shr}
 use Rattle.standard.specs.Notation.{_⊕_, ceil}
-use Rattle.standard.specs.Bits.{bitOf, bitAt, M, z, window}
+use Rattle.standard.specs.Bits.{bitOf, bitAt, M, differs, z, window}
 use Rattle.standard.specs.Integrity.{T, tag-EIA3, tag-ZUC256}
 use Rattle.standard.proofs.Xor.{xor-assoc, xor-four, xor-odd}
 use Rattle.standard.proofs.Window.{bitAt-lt}
@@ -51,7 +51,7 @@ module _ (words : ℕ → ℕ) (l : ℕ) where
   EIA3-is m = xor-assoc (T 32 (z words) 0 (M m) l) (window (z words) l 32) (window (z words) (32 * (ceil (l + 64) 32 - 1)) 32)
 
   -- demand 3 (a): two tags differ by the windows at the bits where the messages differ
-  pub EIA3-two : (m n : List ℕ) → tag-EIA3 words m l ⊕ tag-EIA3 words n l ≡ T 32 (z words) 0 (λ i. M m i ⊕ M n i) l
+  pub EIA3-two : (m n : List ℕ) → tag-EIA3 words m l ⊕ tag-EIA3 words n l ≡ T 32 (z words) 0 (differs m n) l
   EIA3-two m n = ap₂ bitXor (EIA3-is m) (EIA3-is n) ∙ two-tags 32 (z words) 0 EIA3-rest l (M m) (M n) (M-lt m) (M-lt n)
 
   -- demand 3 (b): three tags xor to the tag of a message x that is bit for bit their xor
@@ -72,7 +72,7 @@ module _ (t : ℕ) (words : ℕ → ℕ) (l : ℕ) where
       ap (λ (x : ℕ). x ⊕ window (z words) (t + l) t) (xor-comm (window (z words) 0 t) (T t (z words) t (M m) l))
       ∙ xor-assoc (T t (z words) t (M m) l) (window (z words) 0 t) (window (z words) (t + l) t)
 
-  pub ZUC256-two : (m n : List ℕ) → tag-ZUC256 t words m l ⊕ tag-ZUC256 t words n l ≡ T t (z words) t (λ i. M m i ⊕ M n i) l
+  pub ZUC256-two : (m n : List ℕ) → tag-ZUC256 t words m l ⊕ tag-ZUC256 t words n l ≡ T t (z words) t (differs m n) l
   ZUC256-two m n = ap₂ bitXor (ZUC256-is m) (ZUC256-is n) ∙ two-tags t (z words) t ZUC256-rest l (M m) (M n) (M-lt m) (M-lt n)
 
   pub ZUC256-three : (a b c x : List ℕ) → ((i : ℕ) → i < l → M x i ≡ M a i ⊕ M b i ⊕ M c i)

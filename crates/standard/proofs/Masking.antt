@@ -8,9 +8,9 @@ use native.Mathlib.Omega.{arith}
 use lib.Bits.{xor-shr, xor-mod}
 use lib.ListN.{length, getD, set, List·getD-eq-default}
 use lib.Pow.{shr-shr, field, mod-mod-pow}
-use Rattle.standard.specs.Notation.{_⊕_}
-use Rattle.standard.specs.Bits.{bitOf, bitAt, M, z}
-use Rattle.standard.specs.Confidentiality.{OBS, byteOf, masked, keepHigh, keptByCrate, keptByClean, eachFrom, maskedBuffer, maskCrate, maskClean}
+use Rattle.standard.specs.Notation.{_⊕_, eachFrom}
+use Rattle.standard.specs.Bits.{bitOf, bitAt, M, z, byteOf}
+use Rattle.standard.specs.Confidentiality.{OBS, masked, keepHigh, keptByCrate, keptByClean, maskedBuffer, maskCrate, maskClean}
 use Rattle.standard.proofs.Each.{length-each, getD-each, each-ext, each-each, each-set}
 use Rattle.standard.proofs.Kept.{keep-all, kept-bit, lost-bit, keep-twice, crateEnd, end-le, crate-kept, kept-same, kept-stray}
 

@@ -1,17 +1,11 @@
--- 128-EEA3 (Document 1) and masking by bit length (document 01, "Masking").
+-- 128-EEA3 (Document 1, section 3) and masking by bit length (document 01, "Masking").
 use mathlib.Core.List.{List, [], _∷_, _++_}
-use Prim.Native.Nat.{ℕ, suc, _+_, _-_, _*_, _/_, _%_, _^_, min}
+use Prim.Native.Nat.{ℕ, _+_, _-_, _*_, _/_, _%_, _^_, min}
 use lib.Dec.{ltb, eqb}
-use Rattle.standard.specs.Notation.{_⊕_, if_then_else_}
+use Rattle.standard.specs.Notation.{_⊕_, if_then_else_, eachFrom}
+use Rattle.standard.specs.Bits.{byteOf, bytesOf}
 
--- the bytes of a 32-bit number, highest first, and byte j of it
-unfoldable pub byteOf : ℕ → ℕ → ℕ
-byteOf x j = x / 2 ^ (8 * (3 - j)) % 2 ^ 8
-
-abbrev pub bytesOf : ℕ → List ℕ
-bytesOf x = byteOf x 0 ∷ byteOf x 1 ∷ byteOf x 2 ∷ byteOf x 3 ∷ []
-
--- EEA3: IV[0..3] = COUNT; IV[4] = BEARER || DIRECTION || 00; IV[5..7] = 0; IV[8..15] = IV[0..7]
+-- 3.3 (initialisation): IV[0..3] = COUNT; IV[4] = BEARER || DIRECTION || 00; IV[5..7] = 0; IV[8..15] = IV[0..7]
 abbrev pub halfIV-EEA3 : ℕ → ℕ → ℕ → List ℕ
 halfIV-EEA3 COUNT BEARER DIRECTION = bytesOf COUNT ++ ((BEARER * 2 ^ 3 + DIRECTION * 2 ^ 2) ∷ 0 ∷ 0 ∷ 0 ∷ [])
 
@@ -20,7 +14,7 @@ unfoldable pub IV-EEA3 : ℕ → ℕ → ℕ → List ℕ
 IV-EEA3 count bearer direction =
     halfIV-EEA3 count (bearer % 2 ^ 5) (direction % 2) ++ halfIV-EEA3 count (bearer % 2 ^ 5) (direction % 2)
 
--- EEA3: OBS[i] = IBS[i] ⊕ z[i]
+-- 3.5 (encryption and decryption): OBS[i] = IBS[i] ⊕ z[i]
 abbrev pub OBS : (ℕ → ℕ) → (ℕ → ℕ) → ℕ → ℕ
 OBS IBS z i = IBS i ⊕ z i
 
@@ -41,11 +35,6 @@ keptByCrate L j = if ltb (L / 8) j then 0 else if ltb j (L / 8) then 8 else if e
 unfoldable pub keptByClean : ℕ → ℕ → ℕ
 keptByClean L j = min 8 (L - j * 8)
 
--- each byte of a buffer by f of its place and itself, the first place being j
-unfoldable pub eachFrom : (ℕ → ℕ → ℕ) → ℕ → List ℕ → List ℕ
-eachFrom f j [] = []
-eachFrom f j (byte ∷ rest) = f j byte ∷ eachFrom f (suc j) rest
-
 -- the buffer after masking, by what the mode keeps at the bit length
 unfoldable pub maskedBuffer : (ℕ → ℕ) → (ℕ → ℕ) → List ℕ → List ℕ
 maskedBuffer kept words buffer = eachFrom (λ j byte. keepHigh (kept j) (masked words j byte)) 0 buffer
@@ -56,6 +45,6 @@ maskCrate words L buffer = maskedBuffer (keptByCrate L) words buffer
 abbrev pub maskClean : (ℕ → ℕ) → ℕ → List ℕ → List ℕ
 maskClean words L buffer = maskedBuffer (keptByClean L) words buffer
 
--- Document 01: the words drawn over a buffer of n bytes, in both modes
+-- Document 01: the words drawn over a buffer of n bytes, in both modes (3.4, keystream generation, asks ⌈LENGTH/32⌉ for)
 abbrev pub wordsToMask : ℕ → ℕ
 wordsToMask n = n / 4 + 1

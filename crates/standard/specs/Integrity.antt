@@ -1,13 +1,12 @@
--- 128-EIA3 (Document 1) and the ZUC-256 tags (version 1.1); the tag rules over the width t in bits.
+-- 128-EIA3 (Document 1, section 4) and the ZUC-256 tags (version 1.1, its MAC generation). LENGTH and l count bits, L words, N bytes.
 use mathlib.Core.Bool.{Bool, _||_}
 use mathlib.Core.List.{List, [], _∷_}
 use Prim.Native.Nat.{ℕ, zero, suc, _+_, _-_, _*_, _/_, _%_, _^_}
 use lib.Dec.{eqb}
 use Rattle.standard.specs.Notation.{_⊕_, ceil}
-use Rattle.standard.specs.Bits.{M, z, window}
-use Rattle.standard.specs.Confidentiality.{byteOf}
+use Rattle.standard.specs.Bits.{M, byteOf, window, z}
 
--- EIA3: IV[0..3] = COUNT; IV[4] = BEARER || 000; IV[5..7] = 0; IV[8] = IV[0] ⊕ (DIRECTION << 7); IV[9..13] = IV[1..5];
+-- 4.3 (initialisation): IV[0..3] = COUNT; IV[4] = BEARER || 000; IV[5..7] = 0; IV[8] = IV[0] ⊕ (DIRECTION << 7); IV[9..13] = IV[1..5];
 -- IV[14] = IV[6] ⊕ (DIRECTION << 7); IV[15] = IV[7]
 abbrev pub bytesIV-EIA3 : ℕ → ℕ → ℕ → List ℕ
 bytesIV-EIA3 COUNT BEARER DIRECTION =
@@ -25,12 +24,14 @@ abbrev pub whereSet : ℕ → ℕ → ℕ
 whereSet zero x = 0
 whereSet (suc bit) x = x
 
--- T = 0; for i = 0 .. l-1: if m[i] = 1 then T = T ⊕ (the window of t bits at o + i)
-unfoldable pub T : ℕ → (ℕ → ℕ) → ℕ → (ℕ → ℕ) → ℕ → ℕ
-T t bits o m zero = 0
-T t bits o m (suc l) = T t bits o m l ⊕ whereSet (m l) (window bits (o + l) t)
+-- T = 0; for i = 0 .. l-1: if m[i] = 1 then T = T ⊕ (the window at from + i). That is, over a stream of bits and a message m of l bits:
+-- the exclusive or of the windows of t bits, one for each set bit i of the message, `from` places behind it
+unfoldable pub T : (t : ℕ) (bits : ℕ → ℕ) (from : ℕ) (m : ℕ → ℕ) (l : ℕ) → ℕ
+T t bits from m zero = 0
+T t bits from m (suc l) = T t bits from m l ⊕ whereSet (m l) (window bits (from + l) t)
 
--- EIA3: L = ⌈(LENGTH + 64)/32⌉; T over the windows z_i at the set bits; T = T ⊕ z_LENGTH; MAC = T ⊕ z_(32·(L-1))
+-- 4.4 and 4.5 (the keystream, the MAC): L = ⌈(LENGTH + 64)/32⌉ words; T over the windows z_i at the set bits; T = T ⊕ z_LENGTH;
+-- MAC = T ⊕ z_(32·(L-1)). Document 01's ZUC-128 tag is the same, over the keystream of a key and an IV of one's own
 unfoldable pub tag-EIA3 : (ℕ → ℕ) → List ℕ → ℕ → ℕ
 tag-EIA3 words message LENGTH =
     T 32 (z words) 0 (M message) LENGTH ⊕ window (z words) LENGTH 32 ⊕ window (z words) (32 * (ceil (LENGTH + 64) 32 - 1)) 32
@@ -39,20 +40,20 @@ tag-EIA3 words message LENGTH =
 abbrev pub isWidth : ℕ → Bool
 isWidth width = eqb width 4 || eqb width 8 || eqb width 16
 
--- ZUC-256, t bits: Tag = (z_0, .., z_(t-1)); Tag = Tag ⊕ W_i at the set bits, W_i = (z_(t+i), .., z_(2t+i-1)); Tag = Tag ⊕ W_l
+-- ZUC-256, MAC generation, t bits: Tag = (z_0, .., z_(t-1)); Tag = Tag ⊕ W_i at the set bits, W_i = (z_(t+i), .., z_(2t+i-1)); Tag = Tag ⊕ W_l
 unfoldable pub tag-ZUC256 : ℕ → (ℕ → ℕ) → List ℕ → ℕ → ℕ
 tag-ZUC256 t words message l =
     window (z words) 0 t ⊕ T t (z words) t (M message) l ⊕ window (z words) (t + l) t
 
--- Document 01, "Tags": the words drawn after updates of N bytes in all, and by a closing call at L bits in all
+-- Document 01, "Tags": the words drawn after updates of N bytes in all, and by a closing call at LENGTH (l) bits in all
 abbrev pub drawnAfter-EIA3 : ℕ → ℕ
 drawnAfter-EIA3 N = 2 + N / 4
 
 abbrev pub drawnByTag-EIA3 : ℕ → ℕ
-drawnByTag-EIA3 L = ceil L 32 + 2
+drawnByTag-EIA3 LENGTH = ceil LENGTH 32 + 2
 
 abbrev pub drawnAfter-ZUC256 : ℕ → ℕ → ℕ
 drawnAfter-ZUC256 t N = t / 32 * (3 + 8 * N / t)
 
 abbrev pub drawnByTag-ZUC256 : ℕ → ℕ → ℕ
-drawnByTag-ZUC256 t L = t / 32 * (3 + L / t)
+drawnByTag-ZUC256 t l = t / 32 * (3 + l / t)

@@ -5,4 +5,6 @@ pub mod Generator
 pub mod Loading
 pub mod Confidentiality
 pub mod Integrity
+pub mod Refusals
+pub mod States
 pub mod Examples

@@ -2,7 +2,7 @@
 ghost use lib.Dec.{leb};
 ghost use mathlib.Core.Path.{_≡_};
 ghost use Prim.Native.Nat.{_*_, _<_};
-ghost use Rattle.standard.specs.Confidentiality.{byteOf};
+ghost use Rattle.standard.specs.Bits.{byteOf};
 ghost use Rattle.standard.specs.Notation.{_‖₈_, _⋘_};
 
 // x rotated left by n, which is 1 to 31.

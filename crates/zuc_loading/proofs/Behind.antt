@@ -6,7 +6,7 @@ use mathlib.Core.Path.{_≡_, _∙_, ap, refl, sym}
 use native.Mathlib.Omega.{arith}
 use Prim.Native.Nat.{ℕ, _-_}
 use Rattle.standard.proofs.Listed.{is-listed}
-use Rattle.standard.specs.Loading.{listed}
+use Rattle.standard.specs.Notation.{listed}
 
 abbrev pub spelled : List ℕ → List ℕ → List ℕ
 spelled k iv = listed (λ i. getD k i 0) 0 32 ++ listed (λ i. getD iv i 0) 0 23

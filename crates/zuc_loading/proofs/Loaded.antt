@@ -9,15 +9,14 @@ use native.Mathlib.Nat.{zero-add}
 use native.Mathlib.Omega.{arith}
 use Prim.Native.Nat.{ℕ, _%_, _*_, _+_, _-_, _/_, _<_, _^_, _≤_}
 use Rattle.zuc_loading.proofs.Rows.{D-row, or-some}
-use Rattle.zuc_loading.specs.Rows.{Row}
-use Rattle.standard.proofs.Cells.{InRange, all-cells}
+use Rattle.zuc_loading.specs.InnerRows.{Row}
+use Rattle.standard.proofs.Cells.{InRange, all-cells, Cells}
 use Rattle.standard.proofs.Linear.{M-lt}
 use Rattle.standard.proofs.Listed.{getD-listed, length-listed}
 use Rattle.standard.proofs.Window.{window-lt}
 use Rattle.standard.specs.Bits.{M}
-use Rattle.standard.specs.Generator.{Cells, _⟨_⟩}
-use Rattle.standard.specs.Loading.{D, IV₂₅₆, _∣_, cells₂₅₆, listed, load₁₂₈, load₂₅₆}
-use Rattle.standard.specs.Notation.{_‖₁₅_, _‖₇_, _‖₈_}
+use Rattle.standard.specs.Loading.{D, IV₂₅₆, cells₂₅₆, load₁₂₈, load₂₅₆}
+use Rattle.standard.specs.Notation.{_‖₁₅_, _‖₇_, _‖₈_, _⟨_⟩, _∣_, listed}
 
 infixr 40 _&_
 abbrev pub Bytes : List ℕ → Type 0

@@ -8,7 +8,7 @@ use mathlib.Core.List.{List, [], _∷_}
 use mathlib.Core.Path.{_≡_, refl, subst, sym}
 use native.Mathlib.Omega.{arith}
 use Prim.Native.Nat.{ℕ, zero, suc, _+_, _-_, _<_, _^_}
-use Rattle.zuc_loading.specs.Rows.{Inside, Row, place}
+use Rattle.zuc_loading.specs.InnerRows.{Inside, Row, place}
 use Rattle.zuc_loading.specs.declared.zuc256.Places.{Places}
 use Rattle.standard.proofs.Table.{and-left, and-right, at, every}
 use Rattle.standard.specs.Loading.{D, d-keystream, d-tag₁₂₈, d-tag₃₂, d-tag₆₄}

@@ -5,10 +5,11 @@ use mathlib.Core.List.{List, [], _∷_}
 use mathlib.Core.Path.{_≡_, _∙_, ap₂, refl}
 use native.Mathlib.Omega.{arith}
 use Prim.Native.Nat.{ℕ, _%_, _*_, _+_, _/_, _<_, _^_}
-use Rattle.zuc_loading.specs.Rows.{sextets}
+use Rattle.zuc_loading.specs.InnerRows.{sextets}
 use Rattle.standard.proofs.Window.{window-bitOf, window-split}
 use Rattle.standard.specs.Bits.{M, bitAt, bitOf, window}
-use Rattle.standard.specs.Loading.{IV₂₅₆, listed}
+use Rattle.standard.specs.Loading.{IV₂₅₆}
+use Rattle.standard.specs.Notation.{listed}
 
 pub by-shifts : (x y z : ℕ) → x < 256 → y < 256 → z < 256
     → sextets (x ∷ y ∷ z ∷ []) ≡ x / 4 ∷ (x % 4 * 16 + y / 16) ∷ (y % 16 * 4 + z / 64) ∷ z % 64 ∷ []

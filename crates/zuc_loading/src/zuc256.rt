@@ -2,7 +2,7 @@
 ghost use lib.ListN.{drop, length, take};
 ghost use mathlib.Core.List.{[], _∷_};
 ghost use mathlib.Core.Path.{_≡_};
-ghost use Rattle.zuc_loading.specs.Rows.{Inside, besides, joined, sextets, sextetsOf};
+ghost use Rattle.zuc_loading.specs.InnerRows.{Inside, besides, joined, sextets, sextetsOf};
 ghost use Rattle.standard.specs.Loading.{load₂₅₆};
 ghost use Rattle.standard.specs.Notation.{_‖₇_, _‖₈_};
 ghost use Rattle.zuc.specs.Reading.{stateOf};

@@ -4,7 +4,7 @@ use mathlib.Core.List.{List, [], _∷_, _++_}
 use mathlib.Core.Path.{_≡_, _∙_, ap}
 use Rattle.capi_arrays.proofs.Packing.{all-listed, array-state}
 use Rattle.capi_arrays.specs.Arrays.{arrayOf, stateIn}
-use Rattle.standard.specs.Loading.{listed}
+use Rattle.standard.specs.Notation.{listed}
 use Rattle.zuc.specs.Reading.{stateOf}
 use borrow.Author.Needs.{needs}
 use Rattle.capi_arrays.proofs.array_of.Statement.{statement}

@@ -4,8 +4,8 @@ use mathlib.Core.Path.{_≡_, _∙_, ap}
 use native.Mathlib.Omega.{arith}
 use Rattle.capi_arrays.proofs.Packing.{part-listed, state-array}
 use Rattle.capi_arrays.specs.Arrays.{arrayOf, stateIn}
-use Rattle.standard.specs.Generator.{State, _⟨_⟩}
-use Rattle.standard.specs.Loading.{listed}
+use Rattle.standard.specs.Generator.{State}
+use Rattle.standard.specs.Notation.{_⟨_⟩, listed}
 use borrow.Author.Needs.{needs}
 use Rattle.capi_arrays.proofs.state_in.Statement.{statement}
 use Rattle.capi_arrays.proofs.state_in.Tie as tie

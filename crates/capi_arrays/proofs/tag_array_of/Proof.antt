@@ -10,8 +10,7 @@ use Rattle.capi_arrays.proofs.Packing.{Fit, all-listed, array-stored}
 use Rattle.capi_arrays.specs.Arrays.{regrouped, storedIn, tagArrayOf}
 use Rattle.mac_registers.specs.Stored.{storedOf}
 use Rattle.standard.specs.Bits.{M}
-use Rattle.standard.specs.Generator.{_⟨_⟩}
-use Rattle.standard.specs.Loading.{listed}
+use Rattle.standard.specs.Notation.{_⟨_⟩, listed}
 use borrow.Author.Needs.{needs}
 use Rattle.capi_arrays.proofs.tag_array_of.Statement.{statement}
 use Rattle.capi_arrays.proofs.tag_array_of.Tie as tie

@@ -7,9 +7,8 @@ use native.Mathlib.Omega.{arith}
 use Prim.Native.Nat.{ℕ}
 use Rattle.capi_arrays.proofs.Packing.{part-listed, stored-array}
 use Rattle.capi_arrays.specs.Arrays.{stateIn, storedIn, tagArrayOf}
-use Rattle.mac_registers.specs.Stored.{Stored}
-use Rattle.standard.specs.Generator.{_⟨_⟩}
-use Rattle.standard.specs.Loading.{listed}
+use Rattle.standard.specs.States.{Stored}
+use Rattle.standard.specs.Notation.{_⟨_⟩, listed}
 use borrow.Author.Needs.{needs}
 use Rattle.capi_arrays.proofs.tag_state_in.Statement.{statement}
 use Rattle.capi_arrays.proofs.tag_state_in.Tie as tie

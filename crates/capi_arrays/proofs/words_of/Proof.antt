@@ -9,7 +9,7 @@ use Prim.Native.Nat.{ℕ, _+_, _-_, _*_}
 use Rattle.capi_arrays.proofs.Regrouped.{Filled, all-filled, none-filled, one-filled, two-joined}
 use Rattle.capi_arrays.specs.Arrays.{regrouped}
 use Rattle.standard.specs.Bits.{bitAt, window}
-use Rattle.standard.specs.Generator.{_⟨_⟩}
+use Rattle.standard.specs.Notation.{_⟨_⟩}
 use borrow.Author.Needs.{needs}
 use Rattle.capi_arrays.proofs.words_of.Statement.{statement}
 use Rattle.capi_arrays.proofs.words_of.Tie as tie

@@ -4,26 +4,27 @@ use mathlib.Core.Path.{_∙_, refl, sym}
 use Rattle.keystream.specs.Draws.{fillOutcome}
 use Rattle.standard.proofs.Cells.{wellFormed-cells}
 use Rattle.standard.specs.Boxes.{S₀-table, S₁-table}
+use Rattle.standard.specs.Refusals.{tested}
 use borrow.Author.Needs.{needs}
 use Rattle.keystream.proofs.fill.Statement.{statement}
 use Rattle.keystream.proofs.fill.Tie as tie
 
 returns : tie.Need-returns
-unfolding fillOutcome
+unfolding fillOutcome tested
 returns c = rw (sym (c .before .is-well-formed .ensures) ∙ not-true (c .before .is-well-formed .result) (c .if1 .taken)) refl
 
 words-into-requires : tie.Need-words-into-requires
 unfolding S₀-table S₁-table
 words-into-requires c κs =
-    let tested = c .before .before .before in
-    (refl, (refl, wellFormed-cells _ (search needs) (sym (tested .before .is-well-formed .ensures) ∙ not-false (tested .before .is-well-formed .result) (tested .if1 .left))))
+    let passed = c .before .before .before in
+    (refl, (refl, wellFormed-cells _ (search needs) (sym (passed .before .is-well-formed .ensures) ∙ not-false (passed .before .is-well-formed .result) (passed .if1 .left))))
 
 returns-2 : tie.Need-returns-2
-unfolding fillOutcome
+unfolding fillOutcome tested
 returns-2 c =
     let filled = c .before .before in
-    let tested = filled .before .before .before .before in
-    rw (sym (tested .before .is-well-formed .ensures) ∙ not-false (tested .before .is-well-formed .result) (tested .if1 .left))
+    let passed = filled .before .before .before .before in
+    rw (sym (passed .before .is-well-formed .ensures) ∙ not-false (passed .before .is-well-formed .result) (passed .if1 .left))
     (λ i. record { number = 0; state = filled .words-into .ensures .0 i; buffer = filled .words-into .ensures .1 i })
 
 pub fill-spec : {M : Type 1} → statement M

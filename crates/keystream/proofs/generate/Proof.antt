@@ -4,25 +4,26 @@ use mathlib.Core.Path.{_∙_, refl, sym}
 use Rattle.keystream.specs.Draws.{drawOutcome}
 use Rattle.standard.proofs.Cells.{wellFormed-cells}
 use Rattle.standard.specs.Boxes.{S₀-table, S₁-table}
+use Rattle.standard.specs.Refusals.{tested}
 use borrow.Author.Needs.{needs}
 use Rattle.keystream.proofs.generate.Statement.{statement}
 use Rattle.keystream.proofs.generate.Tie as tie
 
 returns : tie.Need-returns
-unfolding drawOutcome
+unfolding drawOutcome tested
 returns c = rw (sym (c .before .is-well-formed .ensures) ∙ not-true (c .before .is-well-formed .result) (c .if1 .taken)) refl
 
 draw-requires : tie.Need-draw-requires
 unfolding S₀-table S₁-table
 draw-requires c κs =
-    let tested = c .before .before in
-    (refl, (refl, wellFormed-cells _ (search needs) (sym (tested .before .is-well-formed .ensures) ∙ not-false (tested .before .is-well-formed .result) (tested .if1 .left))))
+    let passed = c .before .before in
+    (refl, (refl, wellFormed-cells _ (search needs) (sym (passed .before .is-well-formed .ensures) ∙ not-false (passed .before .is-well-formed .result) (passed .if1 .left))))
 
 returns-2 : tie.Need-returns-2
-unfolding drawOutcome
+unfolding drawOutcome tested
 returns-2 c =
-    let tested = c .before .before .before .before in
-    rw (sym (tested .before .is-well-formed .ensures) ∙ not-false (tested .before .is-well-formed .result) (tested .if1 .left))
+    let passed = c .before .before .before .before in
+    rw (sym (passed .before .is-well-formed .ensures) ∙ not-false (passed .before .is-well-formed .result) (passed .if1 .left))
     (λ i. record { number = 0; word = c .before .draw .ensures i .word; state = c .before .draw .ensures i .state })
 
 pub generate-spec : {M : Type 1} → statement M

@@ -1,6 +1,6 @@
 -- `refused` hands back a state of zeros, whatever the number.
 use mathlib.Core.Path.{refl}
-use Rattle.standard.specs.Generator.{zeros}
+use Rattle.standard.specs.States.{zeros}
 use Rattle.keystream.proofs.refused.Statement.{statement}
 use Rattle.keystream.proofs.refused.Tie as tie
 

@@ -5,6 +5,7 @@ use Rattle.standard.specs.Boxes.{S₀-table, S₁-table}
 use Rattle.keystream.specs.declared.StartAnswer.{StartAnswer}
 use Rattle.keystream.specs.Starts.{startNumber, startTold}
 use Rattle.mac_registers.specs.Stored.{storedOf}
+use Rattle.mac.specs.Inner.{begun-128}
 use Rattle.mac.proofs.Outcomes.{refused-as, started-as}
 use Rattle.mac.proofs.begin_from.Statement.{statement}
 use Rattle.mac.proofs.begin_from.Tie as tie
@@ -17,12 +18,14 @@ begin-128-requires c κs =
     (refl, (refl, s .pre (ap startNumber (m .enum-told .given .1))))
 
 returns : tie.Need-returns
+unfolding begun-128
 returns c =
     let m = c .before .before .before in
     let s = m .before .before .before in
     started-as (startTold (s .args .start)) (storedOf (c .begin-128 .result)) _ (ap startNumber (m .enum-told .given .1)) (c .begin-128 .ensures)
 
 returns-2 : tie.Need-returns-2
+unfolding begun-128
 returns-2 c =
     let m = c .before in
     let s = m .before .before in

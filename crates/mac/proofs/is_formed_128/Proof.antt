@@ -2,7 +2,7 @@
 use mathlib.Core.Path.{refl, sym, _∙_}
 use borrow.Author.Needs.{needs}
 use borrow.Author.Tests.{eq-eqb, ne-eqb, not-false, not-true}
-use Rattle.mac.specs.Calls.{formed-128}
+use Rattle.standard.specs.States.{formed-128}
 use Rattle.mac.proofs.is_formed_128.Statement.{statement}
 use Rattle.mac.proofs.is_formed_128.Tie as tie
 

@@ -1,4 +1,4 @@
--- `mac::tag_from` meets its contract: each answer of the keystream's start keeps its number; else the closing of a fresh state.
+-- `mac::tag_from` meets its contract: each answer of the keystream's start keeps its number, which is never that of a width; else the closing of a fresh state.
 use mathlib.Core.Bool.{true}
 use mathlib.Core.Path.{_≡_, refl, sym, ap, _∙_}
 use Prim.Native.Nat.{ℕ, _*_}
@@ -10,9 +10,13 @@ use denote.Ref.{now}
 use Rattle.standard.specs.Boxes.{S₀-table, S₁-table}
 use Rattle.keystream.specs.Starts.{startNumber}
 use Rattle.zuc.specs.Reading.{stateOf}
-use Rattle.mac_registers.specs.Stored.{Stored, packed}
+use Rattle.mac_registers.specs.Stored.{packed}
+use Rattle.standard.specs.States.{Stored}
 use Rattle.mac_registers.specs.Tagging.{closed-EIA3}
 use Rattle.mac_registers.proofs.Packed.{at-packed, good-EIA3, held-as}
+use Rattle.standard.specs.Refusals.{tested}
+use Rattle.mac.specs.Inner.{once-from-128}
+use Rattle.mac.proofs.Outcomes.{key-refused}
 use Rattle.mac.proofs.tag_from.Statement.{statement}
 use Rattle.mac.proofs.tag_from.Tie as tie
 
@@ -20,6 +24,7 @@ fits : (s : tie.After-bits-fit) (t : s .bits-fit .result ≡ true) → leb (s .b
 fits s t = sym (s .bits-fit .ensures) ∙ t
 
 returns : tie.Need-returns
+unfolding once-from-128 tested
 returns c =
     let f = c .before in
     let m = f .before in
@@ -54,6 +59,7 @@ close-128-requires c κs =
     )
 
 returns-2 : tie.Need-returns-2
+unfolding once-from-128 tested
 returns-2 c =
     let b = c .before .before .before in
     let i = b .before .before .before in
@@ -68,15 +74,12 @@ returns-2 c =
     (good-EIA3 (stateOf (a .start .state)) (s .pre .0 (ap startNumber (m .enum-told .given .1))))))
 
 returns-3 : tie.Need-returns-3
-returns-3 c =
-    let s = c .before .before .before .before in
-    absurd (s .pre .1 (ap startNumber (c .enum-told2 .given .1)))
+unfolding once-from-128 tested
+returns-3 c = rw (ap startNumber (c .enum-told2 .given .1)) refl
 
 returns-4 : tie.Need-returns-4
-returns-4 c = rw (ap startNumber (c .enum-told3 .given .1)) refl
-
-returns-5 : tie.Need-returns-5
-returns-5 c = rw (ap startNumber (c .enum-told4 .given .1)) refl
+unfolding once-from-128 tested
+returns-4 c = rw (key-refused _ (c .match .keys3) (c .before .before .before .pre .1)) refl
 
 pub tag-from-spec : {M : Type 1} → statement M
 tag-from-spec =
@@ -88,9 +91,6 @@ tag-from-spec =
     begin-128-requires
     close-128-requires
     (λ c. search needs)
-    (λ c. search needs)
-    (λ c. search needs)
     returns-2
     returns-3
-    returns-4
-    returns-5)
+    returns-4)

@@ -2,13 +2,14 @@
 use mathlib.Core.Path.{refl, ap}
 use borrow.Author.Tests.{not-false, not-true}
 use Rattle.standard.specs.Boxes.{S₀-table, S₁-table}
-use Rattle.mac_registers.specs.Stored.{Stored}
+use Rattle.standard.specs.States.{Stored}
+use Rattle.standard.specs.Refusals.{tested}
 use Rattle.mac.specs.Calls.{updateOutcome}
 use Rattle.mac.proofs.update_state.Statement.{statement}
 use Rattle.mac.proofs.update_state.Tie as tie
 
 returns : tie.Need-returns
-unfolding updateOutcome
+unfolding updateOutcome tested
 returns c =
     let s = c .before .before in
     rw (not-true (s .args .ok) (c .if1 .taken)) refl
@@ -21,7 +22,7 @@ update-requires c κs =
     (refl, (refl, s .pre (not-false (s .args .ok) (i .if1 .left))))
 
 returns-2 : tie.Need-returns-2
-unfolding updateOutcome
+unfolding updateOutcome tested
 returns-2 c =
     let i = c .before .before .before in
     let s = i .before .before in

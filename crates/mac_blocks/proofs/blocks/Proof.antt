@@ -6,7 +6,9 @@ use native.Mathlib.Omega.{arith}
 use lib.ListN.{drop, length, length-drop, take}
 use lib.Seq.{length-take-le}
 use denote.Ref.{now}
-use Rattle.mac_registers.specs.Stored.{Held, Stored, packed, storedOf, taggingOf}
+use Rattle.mac_registers.specs.Stored.{packed, storedOf, taggingOf}
+use Rattle.mac_registers.specs.Inner.{Held}
+use Rattle.standard.specs.States.{Stored}
 use Rattle.mac_registers.specs.Tagging.{updated}
 use Rattle.mac_registers.proofs.Cutting.{updated-from}
 use Rattle.mac_registers.proofs.Packed.{at-packed, good-updated, held-as}

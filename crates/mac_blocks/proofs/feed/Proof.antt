@@ -8,11 +8,11 @@ use lib.Seq.{length-take-le}
 use borrow.Author.Needs.{needs}
 use denote.Ref.{now}
 use Rattle.standard.specs.Generator.{State, after, wordAt}
-use Rattle.standard.specs.Loading.{listed}
+use Rattle.standard.specs.Notation.{listed}
 use Rattle.zuc.specs.Reading.{stateOf}
 use Rattle.mac_registers.specs.Stored.{packed, storedOf, taggingOf}
 use Rattle.mac_registers.specs.Tagging.{Tagging, updated}
-use Rattle.mac_blocks.specs.Whole.{emptyOf}
+use Rattle.mac_blocks.specs.InnerWhole.{emptyOf}
 use Rattle.mac_blocks.proofs.Ahead.{emptied-is, filled, fours}
 use Rattle.mac_blocks.proofs.Moves.{emptied-held}
 use Rattle.mac_blocks.proofs.feed.Statement.{statement}

@@ -8,10 +8,11 @@ use lib.Seq.{length-take-le}
 use borrow.Author.Needs.{needs}
 use denote.Ref.{now}
 use Rattle.standard.specs.Generator.{State, after, wordAt}
-use Rattle.standard.specs.Loading.{listed}
-use Rattle.mac_registers.specs.Stored.{Held, packed, taggingOf}
+use Rattle.standard.specs.Notation.{listed}
+use Rattle.mac_registers.specs.Stored.{packed, taggingOf}
+use Rattle.mac_registers.specs.Inner.{Held}
 use Rattle.mac_registers.specs.Tagging.{updated}
-use Rattle.mac_blocks.specs.Whole.{emptyOf}
+use Rattle.mac_blocks.specs.InnerWhole.{emptyOf}
 use Rattle.mac_blocks.proofs.Ahead.{fed-all, fed-none, fed-on, room, words-lt}
 use Rattle.mac_blocks.proofs.feed_all.Statement.{statement}
 use Rattle.mac_blocks.proofs.feed_all.Tie as tie

@@ -2,8 +2,8 @@
 use mathlib.Core.Logic.{⊎-elim}
 use Prim.Native.Nat.{ℕ, _-_, _/_, _%_, _<_, _≤_}
 use native.Mathlib.Omega.{arith}
-use Rattle.mac_registers.specs.Stored.{Width}
-use Rattle.mac_blocks.specs.Whole.{Portion}
+use Rattle.mac_registers.specs.Inner.{Width}
+use Rattle.mac_blocks.specs.InnerWhole.{Portion}
 use Rattle.mac_blocks.proofs.portion.Statement.{statement}
 use Rattle.mac_blocks.proofs.portion.Tie as tie
 

@@ -4,12 +4,13 @@ use mathlib.Core.List.{List, [], _∷_}
 use mathlib.Core.Path.{_≡_, refl, _∙_, ap, sym}
 use native.Mathlib.Omega.{arith}
 use Prim.Native.Nat.{ℕ, _+_, _*_, _-_, _/_, _≤_}
-use Rattle.standard.specs.Generator.{State, _⟨_⟩}
-use Rattle.zuc_turn.specs.Run.{raisedOf}
+use Rattle.standard.specs.Generator.{State}
+use Rattle.standard.specs.Notation.{_⟨_⟩}
+use Rattle.zuc_turn.specs.InnerRun.{raisedOf}
 use borrow.Author.Needs.{needs}
 use Rattle.mac_registers.specs.Stored.{packed, storedOf, tagOf, taggingOf}
 use Rattle.mac_registers.specs.Tagging.{Tagging, updated}
-use Rattle.mac_narrow.specs.Narrow.{Tagged, taggingAt}
+use Rattle.mac_narrow.specs.InnerNarrow.{Tagged, taggingAt}
 use Rattle.mac_registers.proofs.Cutting.{updated-from}
 use Rattle.mac_narrow.proofs.Bulk.{idle, put-back, taken-out}
 use Rattle.mac_narrow.proofs.blocks_32.Statement.{statement}

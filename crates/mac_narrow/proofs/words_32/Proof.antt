@@ -8,7 +8,7 @@ use Rattle.standard.proofs.Generator.{after-none}
 use Rattle.standard.specs.Generator.{State, after}
 use Rattle.standard.specs.Notation.{_⊕_}
 use Rattle.zuc_turn.proofs.Runs.{turn-standing, turn-word}
-use Rattle.zuc_turn.specs.Run.{Standing, Summed, stateAt}
+use Rattle.zuc_turn.specs.InnerRun.{Standing, Summed, stateAt}
 use borrow.Author.Needs.{needs}
 use Rattle.mac_registers.specs.Tagging.{Tagging, updated}
 use Rattle.mac_narrow.proofs.Bulk.{fed-part, idle}

@@ -8,7 +8,8 @@ use borrow.Author.Needs.{needs}
 use Rattle.standard.specs.Bits.{window, z}
 use Rattle.standard.specs.Generator.{F, State, W, X₃, Z, after, next, word, wordAt, workStep}
 use Rattle.standard.proofs.Generator.{Sound, after-more, after-none, sound-after, word-after}
-use Rattle.zuc.specs.Reading.{Draw, stateOf}
+use Rattle.zuc.specs.Reading.{stateOf}
+use Rattle.zuc.specs.Inner.{Draw}
 use Rattle.mac_registers.specs.Stored.{_‖₆₄_}
 use Rattle.mac_registers.proofs.Packed.{width-most}
 use Rattle.mac_registers.proofs.Widths.{fresh-narrow, fresh-wide, words-more, words-none}

@@ -5,7 +5,7 @@ use Prim.Native.Nat.{ℕ}
 use borrow.Author.Needs.{needs}
 use mir.Syntax.{w64}
 use mir.Val.{Fits}
-use Rattle.standard.specs.Generator.{_⟨_⟩}
+use Rattle.standard.specs.Notation.{_⟨_⟩}
 use Rattle.mac_registers.specs.Stored.{tagOf}
 use Rattle.mac_registers.proofs.Widths.{is-16, moved-16, moved-4, moved-8}
 use Rattle.mac_registers.proofs.key_on.Statement.{statement}

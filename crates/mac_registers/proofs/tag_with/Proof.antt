@@ -6,7 +6,7 @@ use borrow.Author.Needs.{needs}
 use mir.Syntax.{w64}
 use mir.Val.{Fits}
 use denote.Ref.{now}
-use Rattle.standard.specs.Generator.{_⟨_⟩}
+use Rattle.standard.specs.Notation.{_⟨_⟩}
 use Rattle.mac_registers.proofs.Widths.{is-16, summed-16, summed-4, summed-8}
 use Rattle.mac_registers.proofs.tag_with.Statement.{statement}
 use Rattle.mac_registers.proofs.tag_with.Tie as tie

@@ -6,20 +6,21 @@ use lib.ListN.{length}
 use borrow.Author.Needs.{needs}
 use borrow.Author.Tests.{not-true, not-false}
 use Rattle.standard.specs.Boxes.{S₀-table, S₁-table}
-use Rattle.standard.specs.Confidentiality.{eachFrom, maskedBuffer, wordsToMask}
+use Rattle.standard.specs.Confidentiality.{maskedBuffer, wordsToMask}
+use Rattle.standard.specs.Notation.{eachFrom}
 use Rattle.standard.proofs.Cells.{wellFormed-cells}
 use Rattle.standard.proofs.Each.{each-each}
-use Rattle.mask.specs.Clearing.{cleared}
-use Rattle.mask.proofs.Outcomes.{malformed, too-long, accepted}
+use Rattle.mask.specs.Inner.{cleared}
+use Rattle.mask.proofs.Outcomes.{bad-state, bad-bits, accepted}
 use Rattle.mask.proofs.mask.Statement.{statement}
 use Rattle.mask.proofs.mask.Tie as tie
 
 returns : tie.Need-returns
-returns c = malformed _ _ _ _ (sym (c .before .is-well-formed .ensures) ∙ not-true _ (c .if1 .taken))
+returns c = bad-state _ _ _ _ (sym (c .before .is-well-formed .ensures) ∙ not-true _ (c .if1 .taken))
 
 returns-2 : tie.Need-returns-2
 returns-2 c =
-    too-long _ _ _ _ (sym (c .before .before .before .is-well-formed .ensures) ∙ not-false _ (c .before .before .if1 .left))
+    bad-bits _ _ _ _ (sym (c .before .before .before .is-well-formed .ensures) ∙ not-false _ (c .before .before .if1 .left))
     (sym (c .before .bits-fit .ensures) ∙ not-true _ (c .if2 .taken))
 
 mask-all-requires : tie.Need-mask-all-requires

@@ -4,7 +4,7 @@ use Prim.Native.Nat.{_≤_, _-_}
 use native.Mathlib.Omega.{arith}
 use lib.ListN.{length, length-set}
 use Rattle.standard.proofs.Each.{doneFrom, from-same, from-end, from-store}
-use Rattle.mask.specs.Clearing.{zeroed}
+use Rattle.mask.specs.Inner.{zeroed}
 use Rattle.mask.proofs.Clear.{zeroed-before, zeroed-past}
 use Rattle.mask.proofs.zero_from.Statement.{statement}
 use Rattle.mask.proofs.zero_from.Tie as tie

@@ -6,11 +6,14 @@ use Prim.Native.Nat.{ℕ, _+_, _*_, _-_, _/_, _%_, _≤_}
 use borrow.Author.Needs.{needs}
 use Rattle.standard.proofs.Each.{doneFrom, from-end, from-start}
 use Rattle.standard.proofs.Generator.{after-none, word-after, wordAt-after}
-use Rattle.standard.specs.Confidentiality.{eachFrom, masked, wordsToMask}
-use Rattle.standard.specs.Generator.{Cells, State, after, word, wordAt}
+use Rattle.standard.specs.Confidentiality.{masked, wordsToMask}
+use Rattle.standard.specs.Notation.{eachFrom}
+use Rattle.standard.proofs.Cells.{Cells}
+use Rattle.standard.specs.Generator.{State, after, word, wordAt}
 use Rattle.zuc_bulk.proofs.Filling.{turn-on}
-use Rattle.zuc.specs.Reading.{Draw, stateOf}
-use Rattle.zuc_turn.specs.Run.{Standing, raisedOf, stateAt}
+use Rattle.zuc.specs.Reading.{stateOf}
+use Rattle.zuc.specs.Inner.{Draw}
+use Rattle.zuc_turn.specs.InnerRun.{Standing, raisedOf, stateAt}
 use Rattle.mask_bulk.proofs.Words.{alone, turn-masked, turn-state}
 use Rattle.mask_bulk.proofs.mask_all.Statement.{statement}
 use Rattle.mask_bulk.proofs.mask_all.Tie as tie

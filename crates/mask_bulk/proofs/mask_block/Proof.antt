@@ -8,7 +8,7 @@ use Rattle.standard.proofs.Generator.{after-none}
 use Rattle.standard.specs.Confidentiality.{masked}
 use Rattle.standard.specs.Generator.{State, after, wordAt}
 use Rattle.zuc_turn.proofs.Runs.{turn-standing, turn-word}
-use Rattle.zuc_turn.specs.Run.{Standing, Summed, stateAt}
+use Rattle.zuc_turn.specs.InnerRun.{Standing, Summed, stateAt}
 use Rattle.mask_bulk.proofs.Words.{alone, turn-masked}
 use Rattle.mask_bulk.proofs.mask_block.Statement.{statement}
 use Rattle.mask_bulk.proofs.mask_block.Tie as tie

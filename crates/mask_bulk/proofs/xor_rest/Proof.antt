@@ -5,7 +5,8 @@ use native.Mathlib.Nat.{mod-eq-of-lt}
 use native.Mathlib.Omega.{arith}
 use lib.ListN.{length, length-set, getD}
 use Rattle.standard.specs.Notation.{_⊕_}
-use Rattle.standard.specs.Confidentiality.{byteOf, masked}
+use Rattle.standard.specs.Confidentiality.{masked}
+use Rattle.standard.specs.Bits.{byteOf}
 use Rattle.standard.proofs.Each.{doneFrom, from-start, from-end, from-store}
 use Rattle.mask_bulk.proofs.xor_rest.Statement.{statement}
 use Rattle.mask_bulk.proofs.xor_rest.Tie as tie

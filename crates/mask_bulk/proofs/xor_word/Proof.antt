@@ -5,7 +5,8 @@ use native.Mathlib.Omega.{arith}
 use lib.ListN.{getD}
 use denote.Ref.{now}
 use borrow.Author.Needs.{needs}
-use Rattle.standard.specs.Confidentiality.{byteOf, masked}
+use Rattle.standard.specs.Confidentiality.{masked}
+use Rattle.standard.specs.Bits.{byteOf}
 use Rattle.standard.specs.Notation.{_⊕_}
 use Rattle.mask_bulk.proofs.Words.{joined, byte-masked, four-stored}
 use Rattle.mask_bulk.proofs.xor_word.Statement.{statement}

@@ -1,6 +1,6 @@
 -- `byte_of` is the byte of the standard: its shift and remainder are the definition's.
 use borrow.Author.Needs.{needs}
-use Rattle.standard.specs.Confidentiality.{byteOf}
+use Rattle.standard.specs.Bits.{byteOf}
 use Rattle.words.proofs.byte_of.Statement.{statement}
 use Rattle.words.proofs.byte_of.Tie as tie
 

@@ -2,8 +2,8 @@
 use denote.Ref.{now}
 use mathlib.Core.Path.{_∙_, ap}
 use Rattle.capi.specs.Tags.{tagArray}
-use Rattle.mac.specs.Calls.{formed-128, updateOutcome}
-use Rattle.mac_registers.specs.Stored.{Stored}
+use Rattle.mac.specs.Calls.{updateOutcome}
+use Rattle.standard.specs.States.{formed-128, Stored}
 use borrow.Author.Needs.{needs}
 use Rattle.capi.proofs.tags.zuc128_tag_update.Statement.{statement}
 use Rattle.capi.proofs.tags.zuc128_tag_update.Tie as tie

@@ -3,7 +3,7 @@ use denote.Ref.{now}
 use mathlib.Core.Path.{_∙_, ap}
 use Rattle.capi.specs.Tags.{tagArray}
 use Rattle.mac.specs.Calls.{updateOutcome}
-use Rattle.mac_registers.specs.Stored.{Stored, formed}
+use Rattle.standard.specs.States.{Stored, formed}
 use borrow.Author.Needs.{needs}
 use Rattle.capi.proofs.tags.zuc256_tag_update.Statement.{statement}
 use Rattle.capi.proofs.tags.zuc256_tag_update.Tie as tie

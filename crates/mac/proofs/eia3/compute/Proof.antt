@@ -5,10 +5,10 @@ use borrow.Author.Needs.{needs}
 use denote.Ref.{now}
 use mir.Syntax.{w8}
 use mir.Val.{Fits}
-use Rattle.standard.specs.Generator.{_⟨_⟩}
+use Rattle.standard.specs.Notation.{_⟨_⟩}
 use Rattle.standard.specs.Integrity.{IV-EIA3}
 use Rattle.keystream.specs.Starts.{StartOutcome, start₁₂₈}
-use Rattle.mac.specs.Calls.{Ready, once-from-128}
+use Rattle.mac.specs.Inner.{Ready, once-from-128}
 use Rattle.mac.proofs.Accepted.{no-width-128, ready-128}
 use Rattle.mac.proofs.Outcomes.{once-128-is, once-EIA3-is}
 use Rattle.mac.proofs.eia3.compute.Statement.{statement}

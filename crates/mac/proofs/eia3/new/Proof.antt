@@ -5,10 +5,12 @@ use borrow.Author.Needs.{needs}
 use denote.Ref.{now}
 use mir.Syntax.{w8}
 use mir.Val.{Fits}
-use Rattle.standard.specs.Generator.{_⟨_⟩}
+use Rattle.standard.specs.Notation.{_⟨_⟩}
 use Rattle.keystream.specs.Starts.{start₁₂₈}
-use Rattle.mac.specs.Calls.{Ready, begun-128, startOutcome-EIA3}
+use Rattle.standard.specs.Integrity.{IV-EIA3}
+use Rattle.mac.specs.Inner.{Ready, begun-128}
 use Rattle.mac.proofs.Accepted.{ready-128}
+use Rattle.mac.proofs.Outcomes.{begun-128-is, begun-EIA3-is}
 use Rattle.mac.proofs.eia3.new.Statement.{statement}
 use Rattle.mac.proofs.eia3.new.Tie as tie
 
@@ -23,11 +25,12 @@ begin-from-requires c κs =
     (ready-128 (now (k .before .args .key)) (v .iv .result) (λ i. k .shared-slice-known .given i .fits) (λ i. iv-bytes v i .fits))
 
 returns : tie.Need-returns
-unfolding startOutcome-EIA3
 returns c =
     let v = c .before .before .before in
     let a = v .before .before .args in
     c .begin-from .ensures ∙ ap begun-128 (c .before .new .ensures ∙ ap (start₁₂₈ (now (a .key))) (v .iv .ensures))
+    ∙ begun-128-is (now (a .key)) (IV-EIA3 (a .count) (a .bearer) (a .direction))
+    ∙ begun-EIA3-is (a .count) (a .bearer) (a .direction) (now (a .key))
 
 pub new-spec : {M : Type 1} → statement M
 new-spec = tie.close (tie.spec (λ c κs. search needs) (λ c. search needs) (λ c κs. search needs) begin-from-requires returns)

@@ -3,7 +3,7 @@ use mathlib.Core.Path.{_∙_, ap, subst, sym}
 use borrow.Author.Needs.{needs}
 use denote.Ref.{now}
 use Rattle.keystream.specs.Starts.{StartOutcome}
-use Rattle.mac.specs.Calls.{Ready, once-from-128}
+use Rattle.mac.specs.Inner.{Ready, once-from-128}
 use Rattle.mac.proofs.Accepted.{no-width-128, ready-128}
 use Rattle.mac.proofs.Outcomes.{once-128-is}
 use Rattle.mac.proofs.zuc128.compute.Statement.{statement}

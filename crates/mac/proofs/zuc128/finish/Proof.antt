@@ -10,8 +10,9 @@ use denote.Ref.{now}
 use Rattle.standard.specs.Boxes.{S₀-table, S₁-table}
 use Rattle.mac_registers.specs.Stored.{storedOf, taggingOf}
 use Rattle.mac_registers.specs.Tagging.{closed-EIA3}
-use Rattle.mac.specs.Calls.{finishOutcome-128, formed-128}
-use Rattle.mac.proofs.Outcomes.{bad-state, closed, formed-four, too-long}
+use Rattle.mac.specs.Calls.{finishOutcome-128}
+use Rattle.standard.specs.States.{formed-128}
+use Rattle.mac.proofs.Outcomes.{bad-state, closed, formed-four, bad-bits}
 use Rattle.mac.proofs.zuc128.finish.Statement.{statement}
 use Rattle.mac.proofs.zuc128.finish.Tie as tie
 
@@ -32,7 +33,7 @@ returns-2 c =
     let b = c .before in
     let f = b .before .before in
     let a = f .before .before .before .args in
-    too-long 0 (formed-128 (storedOf (a .mac .state))) (storedOf (a .mac .state)) (now (a .tail)) (a .l) _
+    bad-bits 0 (formed-128 (storedOf (a .mac .state))) (storedOf (a .mac .state)) (now (a .tail)) (a .l) _
     (ok f (not-false (f .is-formed-128 .result) (b .before .if1 .left))) (sym (b .bits-fit .ensures) ∙ not-true (b .bits-fit .result) (c .if2 .taken))
 
 close-128-requires : tie.Need-close-128-requires

@@ -2,8 +2,9 @@
 use mathlib.Core.Path.{_∙_, ap, subst, sym}
 use borrow.Author.Needs.{needs}
 use denote.Ref.{now}
-use Rattle.mac.specs.Calls.{Ready, begun-128, startOutcome-128}
+use Rattle.mac.specs.Inner.{Ready, begun-128}
 use Rattle.mac.proofs.Accepted.{ready-128}
+use Rattle.mac.proofs.Outcomes.{begun-128-is}
 use Rattle.mac.proofs.zuc128.new.Statement.{statement}
 use Rattle.mac.proofs.zuc128.new.Tie as tie
 
@@ -16,8 +17,9 @@ begin-from-requires c κs =
     (ready-128 (now (a .key)) (now (a .iv)) (λ i. k .shared-slice-known .given i .fits) (λ i. v .shared-slice-known2 .given i .fits))
 
 returns : tie.Need-returns
-unfolding startOutcome-128
-returns c = c .begin-from .ensures ∙ ap begun-128 (c .before .new .ensures)
+returns c =
+    let a = c .before .before .before .before .args in
+    c .begin-from .ensures ∙ ap begun-128 (c .before .new .ensures) ∙ begun-128-is (now (a .key)) (now (a .iv))
 
 pub new-spec : {M : Type 1} → statement M
 new-spec = tie.close (tie.spec (λ c κs. search needs) begin-from-requires returns)

@@ -7,13 +7,16 @@ use borrow.Author.Needs.{needs}
 use borrow.Author.Tests.{leb-true, not-false, not-true}
 use denote.Ref.{now}
 use Rattle.standard.specs.Boxes.{S₀-table, S₁-table}
-use Rattle.standard.specs.Generator.{Cells}
+use Rattle.standard.proofs.Cells.{Cells}
 use Rattle.zuc.specs.Reading.{stateOf}
 use Rattle.keystream.specs.Starts.{StartOutcome, startNumber, startTold}
-use Rattle.mac_registers.specs.Stored.{Width, tagWords}
+use Rattle.mac_registers.specs.Stored.{tagWords}
+use Rattle.mac_registers.specs.Inner.{Width}
 use Rattle.mac_registers.specs.Tagging.{closed-ZUC256}
 use Rattle.mac_registers.proofs.Packed.{at-packed, good-ZUC256, held-as}
-use Rattle.mac.specs.Calls.{Ready, once-from-256, onceOutcome-256}
+use Rattle.standard.specs.Refusals.{tested}
+use Rattle.mac.specs.Inner.{Ready, once-from-256}
+use Rattle.mac.specs.Calls.{onceOutcome-256}
 use Rattle.mac.proofs.Accepted.{accepted-width, ready-256}
 use Rattle.mac.proofs.Outcomes.{once-256-is, spelled-tag}
 use Rattle.mac.proofs.zuc256.compute.Statement.{statement}
@@ -43,9 +46,10 @@ told : (n : tie.After-new-with-d)
 told n =
     let a = n .before .before .before .before .args in
     ap (λ (o : StartOutcome). once-from-256 (a .width) o (now (a .message)) (a .l)) (n .new-with-d .ensures)
-    ∙ once-256-is (a .width) (now (a .key)) (now (a .iv)) (now (a .message)) (a .l)
+    ∙ once-256-is (now (a .key)) (now (a .iv)) (a .width) (now (a .message)) (a .l)
 
 returns : tie.Need-returns
+unfolding once-from-256 tested
 returns c =
     let f = c .before in
     let m = f .before in
@@ -81,6 +85,7 @@ close-256-requires c κs =
     )
 
 returns-2 : tie.Need-returns-2
+unfolding once-from-256 tested
 returns-2 c =
     let b = c .before .before .before in
     let i = b .before .before .before in
@@ -98,16 +103,19 @@ returns-2 c =
     ∙ told n
 
 returns-3 : tie.Need-returns-3
+unfolding once-from-256 tested
 returns-3 c =
     let n = c .before .before .before in
     sym (rw (ap startNumber (c .enum-told2 .given .1)) refl) ∙ told n
 
 returns-4 : tie.Need-returns-4
+unfolding once-from-256 tested
 returns-4 c =
     let n = c .before .before .before in
     sym (rw (ap startNumber (c .enum-told3 .given .1)) refl) ∙ told n
 
 returns-5 : tie.Need-returns-5
+unfolding once-from-256 tested
 returns-5 c =
     let n = c .before .before .before in
     sym (rw (ap startNumber (c .enum-told4 .given .1)) refl) ∙ told n

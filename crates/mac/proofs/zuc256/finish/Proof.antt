@@ -8,10 +8,11 @@ use borrow.Author.Needs.{needs}
 use borrow.Author.Tests.{leb-true, not-false, not-true}
 use denote.Ref.{now}
 use Rattle.standard.specs.Boxes.{S₀-table, S₁-table}
-use Rattle.mac_registers.specs.Stored.{formed, storedOf, tagWords, taggingOf}
+use Rattle.mac_registers.specs.Stored.{storedOf, tagWords, taggingOf}
+use Rattle.standard.specs.States.{formed}
 use Rattle.mac_registers.specs.Tagging.{closed-ZUC256}
 use Rattle.mac.specs.Calls.{finishOutcome-256, noWords}
-use Rattle.mac.proofs.Outcomes.{bad-state, closed, spelled-tag, too-long}
+use Rattle.mac.proofs.Outcomes.{bad-state, closed, spelled-tag, bad-bits}
 use Rattle.mac.proofs.zuc256.finish.Statement.{statement}
 use Rattle.mac.proofs.zuc256.finish.Tie as tie
 
@@ -35,7 +36,7 @@ returns-2 c =
     let b = c .before in
     let f = b .before .before in
     let a = f .before .before .before .args in
-    too-long noWords (formed (storedOf (a .mac .state))) (storedOf (a .mac .state)) (now (a .tail)) (a .l) _
+    bad-bits noWords (formed (storedOf (a .mac .state))) (storedOf (a .mac .state)) (now (a .tail)) (a .l) _
     (ok f (not-false (f .is-formed .result) (b .before .if1 .left))) (sym (b .bits-fit .ensures) ∙ not-true (b .bits-fit .result) (c .if2 .taken))
 
 close-256-requires : tie.Need-close-256-requires

@@ -6,9 +6,9 @@ use Rattle.standard.specs.Boxes.{S₀-table, S₁-table}
 use Rattle.keystream.specs.declared.StartAnswer.{StartAnswer}
 use Rattle.keystream.specs.Starts.{StartOutcome, startNumber, startTag₂₅₆, startTold}
 use Rattle.mac_registers.specs.Stored.{storedOf}
-use Rattle.mac.specs.Calls.{Ready, begun-256, startOutcome-256}
+use Rattle.mac.specs.Inner.{Ready, begun-256}
 use Rattle.mac.proofs.Accepted.{accepted-width, ready-256}
-use Rattle.mac.proofs.Outcomes.{refused-as, started-as}
+use Rattle.mac.proofs.Outcomes.{begun-256-is, refused-as, started-as}
 use Rattle.mac.proofs.zuc256.new.Statement.{statement}
 use Rattle.mac.proofs.zuc256.new.Tie as tie
 
@@ -38,16 +38,17 @@ begin-256-requires c κs =
     )
 
 returns : tie.Need-returns
-unfolding startOutcome-256
+unfolding begun-256
 returns c =
     let m = c .before .before .before in
     let n = m .before .before .before in
     let a = n .before .before .before .args in
     started-as (startTold (n .new-with-d .result)) (storedOf (c .begin-256 .result)) _ (ap startNumber (m .enum-told .given .1)) (c .begin-256 .ensures)
     ∙ ap (begun-256 (a .width)) (n .new-with-d .ensures)
+    ∙ begun-256-is (now (a .key)) (now (a .iv)) (a .width)
 
 returns-2 : tie.Need-returns-2
-unfolding startOutcome-256
+unfolding begun-256
 returns-2 c =
     let m = c .before in
     let n = m .before .before in
@@ -56,6 +57,7 @@ returns-2 c =
     ap (λ (x : StartAnswer). record { number = startNumber x; state = storedOf (r .result .mac .state) }) (r .ensures .0)
     ∙ refused-as (startTold (n .new-with-d .result)) (storedOf (r .result .mac .state)) _ (n .new-with-d .result .answer) (m .match .keys2) refl (r .ensures .1)
     ∙ ap (begun-256 (a .width)) (n .new-with-d .ensures)
+    ∙ begun-256-is (now (a .key)) (now (a .iv)) (a .width)
 
 pub new-spec : {M : Type 1} → statement M
 new-spec =

@@ -5,7 +5,7 @@ use native.Mathlib.Omega.{arith}
 use lib.ListN.{drop, drop-of-length-le, length}
 use borrow.Author.Needs.{needs}
 use denote.Ref.{now}
-use Rattle.mac_registers.specs.Stored.{allZero}
+use Rattle.standard.specs.States.{allZero}
 use Rattle.mac_registers.proofs.Packed.{zero-next, zero-not}
 use Rattle.mac_registers.proofs.forms.all_zero.Statement.{statement}
 use Rattle.mac_registers.proofs.forms.all_zero.Tie as tie

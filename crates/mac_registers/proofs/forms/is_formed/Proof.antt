@@ -7,8 +7,10 @@ use Prim.Native.Nat.{ℕ}
 use lib.ListN.{length}
 use mir.Syntax.{w64}
 use mir.Val.{Fits}
-use Rattle.standard.specs.Generator.{_⟨_⟩}
-use Rattle.mac_registers.specs.Stored.{Held, formed, storedOf}
+use Rattle.standard.specs.Notation.{_⟨_⟩}
+use Rattle.mac_registers.specs.Stored.{storedOf}
+use Rattle.mac_registers.specs.Inner.{Held}
+use Rattle.standard.specs.States.{formed}
 use Rattle.mac_registers.proofs.Packed.{Typed, formed-held}
 use Rattle.mac_registers.proofs.forms.is_formed.Statement.{statement}
 use Rattle.mac_registers.proofs.forms.is_formed.Tie as tie

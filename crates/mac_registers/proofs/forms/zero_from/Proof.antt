@@ -4,7 +4,7 @@ use Prim.Native.Nat.{_-_}
 use native.Mathlib.Omega.{arith}
 use lib.ListN.{drop, drop-of-length-le, length}
 use borrow.Author.Needs.{needs}
-use Rattle.mac_registers.specs.Stored.{allZero}
+use Rattle.standard.specs.States.{allZero}
 use Rattle.mac_registers.proofs.Packed.{zero-next, zero-not}
 use Rattle.mac_registers.proofs.forms.zero_from.Statement.{statement}
 use Rattle.mac_registers.proofs.forms.zero_from.Tie as tie

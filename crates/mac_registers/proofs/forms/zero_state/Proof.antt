@@ -1,7 +1,6 @@
 -- `registers::forms::zero_state` meets its contract: every field is zero.
 use mathlib.Core.Path.{refl}
-use Rattle.standard.specs.Generator.{zeros}
-use Rattle.mac_registers.specs.Stored.{zeroStored}
+use Rattle.standard.specs.States.{zeros, zeroStored}
 use Rattle.mac_registers.proofs.forms.zero_state.Statement.{statement}
 use Rattle.mac_registers.proofs.forms.zero_state.Tie as tie
 

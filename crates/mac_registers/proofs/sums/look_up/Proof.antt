@@ -4,8 +4,8 @@ use Prim.Native.Nat.{ℕ, _+_, _<_, _^_}
 use lib.Bits.{bitXor}
 use borrow.Author.Needs.{needs}
 use denote.Ref.{now}
-use Rattle.standard.specs.Generator.{_⟨_⟩}
-use Rattle.mac_registers.specs.Lookup.{lookedUp}
+use Rattle.standard.specs.Notation.{_⟨_⟩}
+use Rattle.mac_registers.specs.InnerLookup.{lookedUp}
 use Rattle.mac_registers.proofs.Lookup.{by-bytes}
 use Rattle.mac_registers.proofs.Widths.{bytes-32}
 use Rattle.mac_registers.proofs.sums.look_up.Statement.{statement}

@@ -4,7 +4,7 @@ use lib.Bits.{xor-mod}
 use lib.ListN.{getD}
 use borrow.Author.Needs.{needs}
 use denote.Ref.{now}
-use Rattle.mac_registers.specs.Lookup.{byteLookedUp}
+use Rattle.mac_registers.specs.InnerLookup.{byteLookedUp}
 use Rattle.mac_registers.proofs.sums.of_byte.Statement.{statement}
 use Rattle.mac_registers.proofs.sums.of_byte.Tie as tie
 

@@ -7,7 +7,7 @@ use denote.Ref.{now}
 use Rattle.standard.specs.Bits.{M, window}
 use Rattle.standard.proofs.Linear.{M-lt}
 use Rattle.standard.proofs.Window.{window-lt, window-split}
-use Rattle.mac_registers.specs.Lookup.{summed, wideLookedUp}
+use Rattle.mac_registers.specs.InnerLookup.{summed, wideLookedUp}
 use Rattle.mac_registers.specs.Stored.{_‖₁₂₈_, _‖₆₄_}
 use Rattle.mac_registers.proofs.Double.{wide-from, wider-is}
 use Rattle.mac_registers.proofs.sums.sum_128.Statement.{statement}

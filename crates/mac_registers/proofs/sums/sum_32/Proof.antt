@@ -5,7 +5,7 @@ use Prim.Native.Nat.{ℕ, _*_}
 use borrow.Author.Needs.{needs}
 use denote.Ref.{now}
 use Rattle.standard.specs.Bits.{M, window}
-use Rattle.mac_registers.specs.Lookup.{lookedUp}
+use Rattle.mac_registers.specs.InnerLookup.{lookedUp}
 use Rattle.mac_registers.proofs.Lookup.{looked-is}
 use Rattle.mac_registers.proofs.sums.sum_32.Statement.{statement}
 use Rattle.mac_registers.proofs.sums.sum_32.Tie as tie

@@ -4,7 +4,7 @@ use Prim.Native.Nat.{ℕ, _+_, _*_, _^_}
 use lib.Bits.{bitXor}
 use borrow.Author.Needs.{needs}
 use denote.Ref.{now}
-use Rattle.mac_registers.specs.Lookup.{lookedUp, wideLookedUp}
+use Rattle.mac_registers.specs.InnerLookup.{lookedUp, wideLookedUp}
 use Rattle.mac_registers.proofs.Widths.{halves-64}
 use Rattle.mac_registers.proofs.sums.wide_look_up.Statement.{statement}
 use Rattle.mac_registers.proofs.sums.wide_look_up.Tie as tie

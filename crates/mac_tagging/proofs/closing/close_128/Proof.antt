@@ -4,7 +4,7 @@ use native.Mathlib.Omega.{arith}
 use lib.Seq.{length-take-le}
 use borrow.Author.Needs.{needs}
 use denote.Ref.{now}
-use Rattle.zuc.specs.Reading.{drawnOf}
+use Rattle.zuc.specs.Inner.{drawnOf}
 use Rattle.mac_registers.specs.Stored.{storedOf}
 use Rattle.mac_blocks.proofs.Moves.{cnt-most}
 use Rattle.mac_tagging.proofs.Ends.{closes-128, end-held, tag-fits, width-four}

@@ -3,7 +3,8 @@ use mathlib.Core.Path.{refl}
 use borrow.Author.Needs.{needs}
 use borrow.Author.Tests.{eq-eqb, ne-eqb}
 use Rattle.mac_registers.specs.Stored.{keyOf, taggingOf}
-use Rattle.mac_registers.specs.Tagging.{extraState, extraWord}
+use Rattle.mac_registers.specs.Tagging.{extraWord}
+use Rattle.mac_registers.specs.Inner.{extraState}
 use Rattle.mac_tagging.proofs.closing.extra.Statement.{statement}
 use Rattle.mac_tagging.proofs.closing.extra.Tie as tie
 

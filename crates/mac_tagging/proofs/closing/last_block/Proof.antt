@@ -8,7 +8,7 @@ use lib.ListN.{drop, replicate, take}
 use borrow.Author.Needs.{needs}
 use denote.Ref.{now}
 use Rattle.mac_registers.specs.Stored.{storedOf, taggingOf}
-use Rattle.mac_registers.specs.Tagging.{lastByte}
+use Rattle.mac_registers.specs.Inner.{lastByte}
 use Rattle.mac_blocks.proofs.Moves.{cnt-most}
 use Rattle.mac_tagging.proofs.Last.{last-byte-none, last-byte-some}
 use Rattle.mac_tagging.proofs.Bytes.{rem-next}

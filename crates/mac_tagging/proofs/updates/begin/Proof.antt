@@ -3,7 +3,7 @@ use mathlib.Core.Path.{subst, sym}
 use borrow.Author.Needs.{needs}
 use Rattle.standard.proofs.Generator.{Sound, sound-after}
 use Rattle.zuc.specs.Reading.{stateOf}
-use Rattle.mac_registers.specs.Stored.{Words, fresh, wordsOf}
+use Rattle.mac_registers.specs.Inner.{Words, fresh, wordsOf}
 use Rattle.mac_blocks.proofs.Moves.{fresh-lt}
 use Rattle.mac_tagging.proofs.Starts.{begun-is}
 use Rattle.mac_tagging.proofs.updates.begin.Statement.{statement}

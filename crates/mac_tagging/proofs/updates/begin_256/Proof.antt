@@ -3,7 +3,8 @@ use mathlib.Core.Path.{ap, _∙_, subst, sym}
 use borrow.Author.Needs.{needs}
 use Rattle.standard.proofs.Generator.{Sound, sound-after}
 use Rattle.zuc.specs.Reading.{stateOf}
-use Rattle.mac_registers.specs.Stored.{Words, fresh, packed, tagOf, tagWords, wordsOf}
+use Rattle.mac_registers.specs.Stored.{packed, tagOf, tagWords}
+use Rattle.mac_registers.specs.Inner.{Words, fresh, wordsOf}
 use Rattle.mac_registers.proofs.Packed.{tag-back}
 use Rattle.mac_tagging.proofs.Starts.{begun-256}
 use Rattle.mac_tagging.proofs.updates.begin_256.Statement.{statement}

@@ -6,9 +6,10 @@ use native.Mathlib.Omega.{arith}
 use lib.ListN.{length}
 use borrow.Author.Needs.{needs}
 use denote.Ref.{now}
-use Rattle.mac_registers.specs.Stored.{Stored, storedOf}
-use Rattle.mac_registers.specs.Blocks.{Blocks}
-use Rattle.mac_tagging.specs.Steps.{Turned}
+use Rattle.mac_registers.specs.Stored.{storedOf}
+use Rattle.standard.specs.States.{Stored}
+use Rattle.mac_registers.specs.InnerBlocks.{Blocks}
+use Rattle.mac_tagging.specs.InnerSteps.{Turned}
 use Rattle.mac_tagging.proofs.Bytes.{byte-is}
 use Rattle.mac_tagging.proofs.updates.turn.Statement.{statement}
 use Rattle.mac_tagging.proofs.updates.turn.Tie as tie

@@ -5,8 +5,9 @@ use mathlib.Core.Path.{_≡_, _∙_}
 use Prim.Native.Nat.{_%_, _/_}
 use Rattle.zuc_loading.proofs.Behind.{apart, spelled}
 use Rattle.zuc_loading.proofs.Sextets.{first-four, last-four}
-use Rattle.zuc_loading.specs.Rows.{sextets, sextetsOf}
-use Rattle.standard.specs.Loading.{IV₂₅₆, listed}
+use Rattle.zuc_loading.specs.InnerRows.{sextets, sextetsOf}
+use Rattle.standard.specs.Loading.{IV₂₅₆}
+use Rattle.standard.specs.Notation.{listed}
 use borrow.Author.Needs.{needs}
 use Rattle.zuc_loading.proofs.zuc256.beside.Statement.{statement}
 use Rattle.zuc_loading.proofs.zuc256.beside.Tie as tie

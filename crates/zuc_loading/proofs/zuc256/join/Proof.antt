@@ -5,11 +5,10 @@ use mathlib.Core.List.{List}
 use mathlib.Core.Path.{_≡_, _∙_, refl}
 use native.Mathlib.Omega.{arith}
 use Prim.Native.Nat.{ℕ, _-_, _<_, _≤_}
-use Rattle.zuc_loading.specs.Rows.{joined, place}
+use Rattle.zuc_loading.specs.InnerRows.{joined, place}
 use Rattle.zuc_loading.specs.declared.zuc256.Places.{Places}
 use Rattle.standard.proofs.Listed.{is-listed, stored}
-use Rattle.standard.specs.Loading.{_∣_}
-use Rattle.standard.specs.Notation.{_‖₇_, _‖₈_}
+use Rattle.standard.specs.Notation.{_‖₇_, _‖₈_, _∣_}
 use borrow.Author.Needs.{needs}
 use Rattle.zuc_loading.proofs.zuc256.join.Statement.{statement}
 use Rattle.zuc_loading.proofs.zuc256.join.Tie as tie

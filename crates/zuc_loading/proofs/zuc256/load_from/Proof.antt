@@ -6,10 +6,10 @@ use mathlib.Core.Path.{_≡_, _∙_, refl}
 use Prim.Native.Nat.{ℕ, _%_, _+_, _/_, _^_}
 use Rattle.zuc_loading.proofs.Behind.{apart, spelled}
 use Rattle.zuc_loading.proofs.Rows.{inside}
-use Rattle.zuc_loading.specs.Rows.{besides, joined, place}
+use Rattle.zuc_loading.specs.InnerRows.{besides, joined, place}
 use Rattle.zuc_loading.specs.declared.zuc256.Places.{Places}
-use Rattle.standard.specs.Loading.{IV₂₅₆, _∣_, cells₂₅₆, listed, load₂₅₆}
-use Rattle.standard.specs.Notation.{_‖₇_, _‖₈_}
+use Rattle.standard.specs.Loading.{IV₂₅₆, cells₂₅₆, load₂₅₆}
+use Rattle.standard.specs.Notation.{_‖₇_, _‖₈_, _∣_, listed}
 use borrow.Author.Needs.{needs}
 use Rattle.zuc_loading.proofs.zuc256.load_from.Statement.{statement}
 use Rattle.zuc_loading.proofs.zuc256.load_from.Tie as tie

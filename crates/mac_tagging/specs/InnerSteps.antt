@@ -3,9 +3,11 @@ use mathlib.Core.List.{List}
 use mathlib.Core.Path.{_≡_}
 use Prim.Native.Nat.{ℕ, _-_, _*_, _<_, _≤_}
 use lib.ListN.{drop, length, take}
-use Rattle.zuc.specs.Reading.{Draw}
-use Rattle.mac_registers.specs.Stored.{Stored, packed, taggingOf}
-use Rattle.mac_registers.specs.Tagging.{Tagging, extraState, extraWord, updated}
+use Rattle.zuc.specs.Inner.{Draw}
+use Rattle.mac_registers.specs.Stored.{packed, taggingOf}
+use Rattle.standard.specs.States.{Stored}
+use Rattle.mac_registers.specs.Tagging.{Tagging, extraWord, updated}
+use Rattle.mac_registers.specs.Inner.{extraState}
 
 -- the bytes from i up to a returned place have been taken in, at least one
 pub record Turned (s : Stored) (message : List ℕ) (i : ℕ) (r : Stored) (at : ℕ) : Type 0 where

@@ -3,7 +3,8 @@ use mathlib.Core.List.{List}
 use mathlib.Core.Path.{_≡_}
 use Prim.Native.Nat.{ℕ, _+_, _-_, _*_, _<_, _≤_}
 use lib.ListN.{drop, length, take}
-use Rattle.mac_registers.specs.Stored.{Stored, packed, taggingOf}
+use Rattle.mac_registers.specs.Stored.{packed, taggingOf}
+use Rattle.standard.specs.States.{Stored}
 use Rattle.mac_registers.specs.Tagging.{updated}
 
 -- the bytes from i up to a returned place have been taken in: all that make whole blocks

@@ -2,7 +2,7 @@
 use mathlib.Core.List.{List, []}
 use mathlib.Core.Path.{_≡_}
 use Prim.Native.Nat.{ℕ}
-use Rattle.zuc_turn.specs.Run.{Laid, Low, stateAt}
+use Rattle.zuc_turn.specs.InnerRun.{Laid, Low, stateAt}
 use Rattle.mac_registers.specs.Tagging.{Tagging}
 use Rattle.mac_narrow.specs.declared.Narrow.{Narrow}
 

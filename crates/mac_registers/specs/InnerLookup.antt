@@ -2,9 +2,8 @@
 use mathlib.Core.List.{List}
 use Prim.Native.Nat.{ℕ, zero, suc, _+_, _-_, _*_, _/_, _%_, _^_}
 use lib.ListN.{getD}
-use Rattle.standard.specs.Notation.{_⊕_}
+use Rattle.standard.specs.Notation.{_⊕_, listed}
 use Rattle.standard.specs.Bits.{bitOf}
-use Rattle.standard.specs.Loading.{listed}
 use Rattle.standard.specs.Integrity.{T, whereSet}
 
 -- the tag sum of t message bits over a key pair of 2t bits: what the code computes at t = 32, 64 and 128

@@ -4,9 +4,11 @@ use mathlib.Core.Path.{_≡_}
 use Prim.Native.Nat.{ℕ, _*_, _/_, _≤_}
 use lib.ListN.{length, replicate}
 use Rattle.standard.specs.Bits.{z}
-use Rattle.standard.specs.Generator.{State, _⟨_⟩, after, wordAt}
-use Rattle.standard.specs.Loading.{listed}
-use Rattle.mac_registers.specs.Stored.{Held, Stored, packed, taggingOf}
+use Rattle.standard.specs.Generator.{State, after, wordAt}
+use Rattle.standard.specs.Notation.{_⟨_⟩, listed}
+use Rattle.standard.specs.States.{Stored}
+use Rattle.mac_registers.specs.Stored.{packed, taggingOf}
+use Rattle.mac_registers.specs.Inner.{Held}
 use Rattle.mac_registers.specs.Tagging.{updated}
 
 -- the bits of words drawn before they are used

@@ -5,9 +5,8 @@ use lib.ListN.{getD}
 use Rattle.zuc_loading.specs.declared.zuc256.Places.{Places}
 use Rattle.zuc_loading.specs.declared.zuc256.Sextets.{Sextets}
 use Rattle.standard.specs.Bits.{M, window}
-use Rattle.standard.specs.Generator.{_⟨_⟩}
-use Rattle.standard.specs.Loading.{IV₂₅₆, _∣_, listed}
-use Rattle.standard.specs.Notation.{_‖₇_, _‖₈_}
+use Rattle.standard.specs.Loading.{IV₂₅₆}
+use Rattle.standard.specs.Notation.{_‖₇_, _‖₈_, _⟨_⟩, _∣_, listed}
 
 -- each of sixteen entries is nonzero and below 2^bits
 pub record Row (bits : ℕ) (row : List ℕ) : Type 0 where

@@ -1,0 +1,36 @@
+-- Inner functions only: what they ask of a start of the keystream, and what they do with it.
+use mathlib.Core.List.{List, [], _∷_}
+use mathlib.Core.Path.{_≡_}
+use Prim.Native.Nat.{ℕ, _*_}
+use lib.Dec.{eqb}
+use Rattle.standard.specs.Refusals.{Test, accepted, bitsTest, tested}
+use Rattle.standard.proofs.Cells.{Cells}
+use Rattle.keystream.specs.Starts.{StartOutcome}
+use Rattle.mac_registers.specs.Stored.{packed, tagWords}
+use Rattle.mac_registers.specs.Tagging.{begun-EIA3, begun-ZUC256, closed-EIA3, closed-ZUC256}
+use Rattle.mac.specs.Calls.{Once, Outcome, noWords, refusedOnce, refusedTag}
+
+-- where it was accepted, its cells are well formed
+abbrev pub Ready : StartOutcome → Type 0
+Ready o = o .number ≡ accepted → Cells (o .state .cells)
+
+-- its refusal is passed up
+abbrev pub passedUp : StartOutcome → Test
+passedUp o = record { passes = eqb (o .number) accepted; number = o .number }
+
+-- a tag state over a started generator
+unfoldable pub begun-128 : StartOutcome → Outcome
+begun-128 o = tested (passedUp o ∷ []) refusedTag (record { number = accepted; state = packed 4 (begun-EIA3 (o .state)) })
+
+unfoldable pub begun-256 : ℕ → StartOutcome → Outcome
+begun-256 width o = tested (passedUp o ∷ []) refusedTag (record { number = accepted; state = packed width (begun-ZUC256 (width * 8) (o .state)) })
+
+-- a one-shot over a started generator
+unfoldable pub once-from-128 : StartOutcome → List ℕ → ℕ → Once ℕ
+once-from-128 o message l =
+    tested (passedUp o ∷ bitsTest l message ∷ []) (refusedOnce 0) (record { number = accepted; tag = closed-EIA3 (begun-EIA3 (o .state)) message l })
+
+unfoldable pub once-from-256 : ℕ → StartOutcome → List ℕ → ℕ → Once (List ℕ)
+once-from-256 width o message l =
+    tested (passedUp o ∷ bitsTest l message ∷ []) (refusedOnce noWords)
+    (record { number = accepted; tag = tagWords width (closed-ZUC256 (width * 8) (begun-ZUC256 (width * 8) (o .state)) message l) })

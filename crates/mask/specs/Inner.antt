@@ -1,0 +1,21 @@
+-- Inner functions only: what they clear, and both modes as one.
+use mathlib.Core.List.{List}
+use Prim.Native.Nat.{ℕ}
+use lib.Dec.{ltb}
+use lib.ListN.{length}
+use Rattle.standard.specs.Confidentiality.{keepHigh, keptByClean, maskClean, wordsToMask}
+use Rattle.standard.specs.Generator.{State, wordAt}
+use Rattle.standard.specs.Notation.{if_then_else_}
+use Rattle.mask.specs.Outcome.{Outcome, drawn, maskTested}
+
+-- a byte at a place, zeroed at and past another
+abbrev pub zeroed : ℕ → ℕ → ℕ → ℕ
+zeroed from j byte = if ltb j from then byte else 0
+
+-- a byte at a place, with every bit at or past a bit length zeroed
+abbrev pub cleared : ℕ → ℕ → ℕ → ℕ
+cleared L j byte = keepHigh (keptByClean L j) byte
+
+-- kept are the bits before `end`
+abbrev pub outcomeTo : ℕ → State → ℕ → List ℕ → Outcome
+outcomeTo end σ L buffer = maskTested σ L buffer (drawn (wordsToMask (length buffer)) σ (maskClean (wordAt σ) end buffer))

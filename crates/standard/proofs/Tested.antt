@@ -1,0 +1,64 @@
+-- The order of checking: what is known of an outcome by its tests, and of the tests by an outcome; by induction on the list of tests.
+use mathlib.Core.Bool.{Bool, true, false}
+use mathlib.Core.List.{List, [], _∷_}
+use mathlib.Core.Path.{_≡_, refl, sym, ap, _∙_}
+use Prim.Native.Nat.{ℕ, _<_}
+use native.Mathlib.Omega.{arith}
+use Rattle.standard.specs.Notation.{if_then_else_}
+use Rattle.standard.specs.Refusals.{Test, tested}
+
+-- every test passes; every number is a refusal's
+abbrev pub AllPass : List Test → Type 0
+AllPass [] = Unit {0}
+AllPass (test ∷ rest) = (test .passes ≡ true) × AllPass rest
+
+abbrev pub Numbered : List Test → Type 0
+Numbered [] = Unit {0}
+Numbered (test ∷ rest) = (0 < test .number) × Numbered rest
+
+-- one test
+if-map : {A B : Type 0} (f : A → B) (b : Bool) (x y : A) → f (if b then x else y) ≡ (if b then f x else f y)
+if-map f true x y = refl
+if-map f false x y = refl
+
+if-when : {A : Type 0} (b : Bool) (x x′ y : A) → (b ≡ true → x ≡ x′) → (if b then x else y) ≡ (if b then x′ else y)
+if-when true x x′ y e = e refl
+if-when false x x′ y e = refl
+
+if-zero : {A : Type 0} (number : A → ℕ) (b : Bool) (x y : A) → (number y ≡ 0 → ⊥) → number (if b then x else y) ≡ 0 → (b ≡ true) × (number x ≡ 0)
+if-zero number true x y other e = (refl, e)
+if-zero number false x y other e = absurd (other e)
+
+pub passed : {A : Type 0} (tests : List Test) (refused : ℕ → A) (answer : A) → AllPass tests → tested tests refused answer ≡ answer
+unfolding tested
+passed [] refused answer all = refl
+passed (test ∷ rest) refused answer all = rw (all .0) (passed rest refused answer (all .1))
+
+-- what is done with an outcome is done with its refusals and with its answer
+pub tested-map : {A B : Type 0} (f : A → B) (tests : List Test) (refused : ℕ → A) (answer : A)
+    → f (tested tests refused answer) ≡ tested tests (λ n. f (refused n)) (f answer)
+unfolding tested
+tested-map f [] refused answer = refl
+tested-map f (test ∷ rest) refused answer =
+    if-map f (test .passes) (tested rest refused answer) (refused (test .number))
+    ∙ ap (λ y. if test .passes then y else f (refused (test .number))) (tested-map f rest refused answer)
+
+-- two answers that are equal where every test passes
+pub tested-when : {A : Type 0} (tests : List Test) (refused : ℕ → A) (a b : A) → (AllPass tests → a ≡ b) → tested tests refused a ≡ tested tests refused b
+unfolding tested
+tested-when [] refused a b e = e tt
+tested-when (test ∷ rest) refused a b e =
+    if-when (test .passes) (tested rest refused a) (tested rest refused b) (refused (test .number)) (λ f. tested-when rest refused a b (λ all. e (f, all)))
+
+-- an outcome with number 0 passed every test, and so it is the answer
+module _ {A : Type 0} (number : A → ℕ) (refused : ℕ → A) (told : (n : ℕ) → number (refused n) ≡ n) (answer : A) where
+  pub accepted-passed : (tests : List Test) → Numbered tests → number (tested tests refused answer) ≡ 0 → AllPass tests
+  unfolding tested
+  accepted-passed [] low e = tt
+  accepted-passed (test ∷ rest) low e =
+      let h = if-zero number (test .passes) (tested rest refused answer) (refused (test .number))
+      (λ z. let n : test .number ≡ 0 = sym (told (test .number)) ∙ z in omega (arith, low .0, n)) e in
+      (h .0, accepted-passed rest (low .1) (h .1))
+
+  pub accepted-is : (tests : List Test) → Numbered tests → number (tested tests refused answer) ≡ 0 → tested tests refused answer ≡ answer
+  accepted-is tests low e = passed tests refused answer (accepted-passed tests low e)

@@ -1,0 +1,58 @@
+-- The table of refusal numbers (document 01, "Refusal numbers, in order of checking"), and what deciding by it means.
+-- Each number is given when, and only when, the words beside it hold and no test before it failed. Requests of document 02 add theirs here.
+use mathlib.Core.Bool.{Bool}
+use mathlib.Core.List.{List, [], _∷_}
+use Prim.Native.Nat.{ℕ, _*_}
+use lib.Dec.{eqb, leb}
+use lib.ListN.{length}
+use Rattle.standard.specs.Notation.{if_then_else_}
+use Rattle.standard.specs.Integrity.{isWidth}
+
+-- no refusal
+abbrev pub accepted : ℕ
+accepted = 0
+
+-- the tag width is not 4, 8 or 16 bytes
+abbrev pub badWidth : ℕ
+badWidth = 1
+
+-- the key is not 16 bytes (ZUC-128, EEA3, EIA3) or 32 (ZUC-256)
+abbrev pub badKey : ℕ
+badKey = 2
+
+-- the IV is not 16 bytes (ZUC-128) or 23 (ZUC-256)
+abbrev pub badIV : ℕ
+badIV = 3
+
+-- the state is malformed (States.antt says when)
+abbrev pub badState : ℕ
+badState = 4
+
+-- the bit length is more than 8 times the bytes lent
+abbrev pub badBits : ℕ
+badBits = 5
+
+-- a test that a call makes before it alters anything, and the number that refuses where it fails
+pub record Test : Type 0 where
+  pub passes : Bool
+  pub number : ℕ
+
+abbrev pub widthTest : ℕ → Test
+widthTest width = record { passes = isWidth width; number = badWidth }
+
+abbrev pub keyTest : ℕ → List ℕ → Test
+keyTest bytes key = record { passes = eqb (length key) bytes; number = badKey }
+
+abbrev pub ivTest : ℕ → List ℕ → Test
+ivTest bytes iv = record { passes = eqb (length iv) bytes; number = badIV }
+
+abbrev pub stateTest : Bool → Test
+stateTest formed = record { passes = formed; number = badState }
+
+abbrev pub bitsTest : ℕ → List ℕ → Test
+bitsTest bits lent = record { passes = leb bits (length lent * 8); number = badBits }
+
+-- THE ORDER OF CHECKING: the first test that fails decides, and the call is refused by its number; where none fails, the answer
+unfoldable pub tested : {A : Type 0} → List Test → (ℕ → A) → A → A
+tested [] refused answer = answer
+tested (test ∷ rest) refused answer = if test .passes then tested rest refused answer else refused (test .number)

@@ -1,0 +1,55 @@
+-- What a call is lent and hands back as a state, and when it is malformed (document 01, "Refusal numbers"; refused by 4).
+use mathlib.Core.Bool.{Bool, true, _&&_}
+use mathlib.Core.List.{List, [], _∷_}
+use Prim.Native.Nat.{ℕ, _-_, _/_, _^_}
+use lib.Dec.{eqb, leb, ltb}
+use lib.ListN.{drop, replicate}
+use Rattle.standard.specs.Notation.{_⟨_⟩, if_then_else_}
+use Rattle.standard.specs.Generator.{State}
+use Rattle.standard.specs.Integrity.{isWidth}
+
+-- a generator's state is malformed when a cell lies outside 1..2147483647
+unfoldable pub wellFormed : List ℕ → Bool
+wellFormed [] = true
+wellFormed (s ∷ rest) = leb 1 s && leb s (2 ^ 31 - 1) && wellFormed rest
+
+-- what a refused start hands back
+unfoldable pub zeros : State
+zeros = record { cells = replicate 16 0; R₁ = 0; R₂ = 0 }
+
+-- A tag's state: the generator, the key pair in four words of 64 bits, the tag in two, sixteen waiting bytes, their count, the width
+-- in bytes. Document 01: "key pairs and tags as two or four 64-bit words"
+pub record Stored : Type 0 where
+  pub generator : State
+  pub key : List ℕ
+  pub tag : List ℕ
+  pub rem : List ℕ
+  pub cnt : ℕ
+  pub width : ℕ
+
+-- the parts unused at a width: a key pair has twice the tag's bits, so one word at 4 bytes, two at 8, four at 16; a tag of 4 bytes
+-- has the low half of its first word, one of 8 bytes all of it
+unfoldable pub unused : ℕ → List ℕ → List ℕ → List ℕ
+unused width k t =
+    if eqb width 4 then k ⟨ 1 ⟩ ∷ k ⟨ 2 ⟩ ∷ k ⟨ 3 ⟩ ∷ t ⟨ 0 ⟩ / 2 ^ 32 ∷ t ⟨ 1 ⟩ ∷ []
+    else if eqb width 8 then k ⟨ 2 ⟩ ∷ k ⟨ 3 ⟩ ∷ t ⟨ 1 ⟩ ∷ []
+    else []
+
+unfoldable pub allZero : List ℕ → Bool
+allZero [] = true
+allZero (x ∷ rest) = eqb x 0 && allZero rest
+
+-- a tag's state is malformed when a cell lies outside 1..2147483647, the width is not 4, 8 or 16, a part unused at its width is not zero,
+-- the waiting byte count is not below the width, or a waiting byte at or past that count is not zero
+unfoldable pub formed : Stored → Bool
+formed s =
+    wellFormed (s .generator .cells) && isWidth (s .width) && allZero (unused (s .width) (s .key) (s .tag)) && ltb (s .cnt) (s .width)
+    && allZero (drop (s .cnt) (s .rem))
+
+-- for ZUC-128 and EIA3 also when the width is not 4
+unfoldable pub formed-128 : Stored → Bool
+formed-128 s = formed s && eqb (s .width) 4
+
+-- what a refused tag start and an accepted finish hand back
+unfoldable pub zeroStored : Stored
+zeroStored = record { generator = zeros; key = replicate 4 0; tag = replicate 2 0; rem = replicate 16 0; cnt = 0; width = 0 }
