@@ -1,2 +1,4 @@
 mod Starting
 pub mod Tight
+pub mod Words
+pub mod Called

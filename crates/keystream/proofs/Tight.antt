@@ -123,11 +123,11 @@ pub asks-nothing-fill : AsksNothing fill.Pre
 asks-nothing-fill κs a = tt
 
 -- a function walked by hand has no `Reads`: what it promises and asks is read here, by the rules that read every other one
-abbrev in-place-read : (κs : Lfts 1) (a : ArgsD in-place.signature κs) (r : ResD in-place.signature κs) (s : AtExit in-place.ended κs) (w : World)
+abbrev pub in-place-read : (κs : Lfts 1) (a : ArgsD in-place.signature κs) (r : ResD in-place.signature κs) (s : AtExit in-place.ended κs) (w : World)
     → ReadAt w (λ w. emp (w .𝓤)) no-know (in-place.clauses (w .𝓤) (w .H) (w .𝓖 .A) (w .𝓜 .mem) (w .𝓡 .run) κs a .ensures tt r s)
 in-place-read κs a r s w = r-last _
 
-abbrev in-place-post : (κs : Lfts 1) (a : ArgsD in-place.signature κs) → ResD in-place.signature κs → AtExit in-place.ended κs → Type 0
+abbrev pub in-place-post : (κs : Lfts 1) (a : ArgsD in-place.signature κs) → ResD in-place.signature κs → AtExit in-place.ended κs → Type 0
 in-place-post κs a r s = AllOf (in-place-read κs a r s w₀ .tells)
 
 pub tight-generate-in-place : Tight {Seen = DrawAnswer × Zuc} in-place-post (λ κs r s. (r, now (s .0)))

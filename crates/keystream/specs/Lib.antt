@@ -1,2 +1,3 @@
 pub mod Starts
 pub mod Draws
+pub mod Runs

@@ -1,5 +1,4 @@
--- The words drawn after each call (document 01, "Tags"), that accepted starts lead only to accepted updates, and that an empty update
--- changes nothing.
+-- The words drawn after each call (document 01, "Tags"), and that an empty update changes nothing; by the running rule's own counts.
 use mathlib.Core.Bool.{true}
 use mathlib.Core.List.{List, []}
 use mathlib.Core.Logic.{inl}
@@ -69,19 +68,6 @@ module _ (loaded : State) {w : ℕ} (v : Width w) {s last : Stored} {parts : Lis
   words-closing-256 tail l h =
       at-state (λ x y. ended (w * 8) y tail l .generator) v st-256 last-256
       ∙ drawn-closing-ZUC256 (w * 8) (width-whole v .0) (width-whole v .1) (started loaded) (joined parts) tail l h
-
--- no update and no closing is refused for its state where that comes from an accepted start
-pub accepted-128 : (key iv : List ℕ) → Bytes key → Bytes iv → (m : List ℕ)
-    → formed-128 (packed 4 (updated 32 (begun-EIA3 (started (load₁₂₈ key iv))) m)) ≡ true
-unfolding formed-128 packed
-accepted-128 key iv hk hv m =
-    and-both (well-formed (good-updated m (good-EIA3 (started (load₁₂₈ key iv)) (sound-started (load₁₂₈ key iv) (cells-128 key iv hk hv))))) refl
-
-pub accepted-256 : {w : ℕ} → Width w → (key iv : List ℕ) → Bytes key → Bytes iv → (m : List ℕ)
-    → formed (packed w (updated (w * 8) (begun-ZUC256 (w * 8) (started (load₂₅₆ (rowOf w) key iv))) m)) ≡ true
-accepted-256 {w} v key iv hk hv m =
-    well-formed
-    (good-updated m (good-ZUC256 v (started (load₂₅₆ (rowOf w) key iv)) (sound-started (load₂₅₆ (rowOf w) key iv) (cells-256 (rowOf w) key iv (row-of w) hk hv))))
 
 -- an empty update changes nothing
 pub empty-update : (s : Stored) → Held s → updateOutcome true s [] ≡ record { number = 0; state = s }

@@ -4,3 +4,5 @@ pub mod Runs
 pub mod Theorems
 pub mod Tight
 pub mod Counts
+pub mod Called
+pub mod Cuttings

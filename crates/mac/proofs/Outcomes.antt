@@ -14,7 +14,7 @@ use Rattle.standard.specs.Loading.{load₁₂₈, load₂₅₆, rowOf}
 use Rattle.standard.specs.Notation.{_⟨_⟩}
 use Rattle.standard.specs.Refusals.{badBits, badKey, badState, bitsTest, ivTest, keyTest, tested, widthTest}
 use Rattle.standard.specs.States.{Stored, formed, formed-128, zeroStored}
-use Rattle.standard.proofs.Generator.{same-words}
+use Rattle.standard.proofs.Generator.{stream-is}
 use Rattle.standard.proofs.Table.{and-right}
 use Rattle.standard.proofs.Tested.{tested-map, tested-when}
 use denote.Enum.Declared.{tagOf}
@@ -78,10 +78,7 @@ module _ {Tag : Type 0} (none : Tag) (ok : Bool) (s : Stored) (tail : List ℕ) 
   unfolding closing tested
   closed e f t z et ez = rw (e, f) (ap₂ (λ (x : Tag) (y : Stored). record { number = 0; tag = x; state = y }) et ez)
 
--- the document's keystream is the words from the state at rest
-pub stream-is : (loaded : State) → keystream loaded ≡ wordAt (started loaded)
-stream-is loaded = λ i n. same-words loaded n i
-
+-- a one-shot's tag
 pub once-EIA3 : (loaded : State) (m : List ℕ) (l : ℕ) → l ≤ length m * 8 → closed-EIA3 (begun-EIA3 (started loaded)) m l ≡ tag-EIA3 (keystream loaded) m l
 unfolding updated
 once-EIA3 loaded m l h =

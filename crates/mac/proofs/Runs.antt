@@ -1,8 +1,8 @@
 -- What accepted calls do, from their contracts: the state after any updates is the packing of the joined message's state.
 use mathlib.Core.Bool.{Bool, true, false}
-use mathlib.Core.List.{List, [], _∷_}
+use mathlib.Core.List.{List, [], _∷_, _++_}
 use mathlib.Core.Path.{_≡_, refl, sym, ap, _∙_}
-use Prim.Native.Nat.{ℕ, _*_, _≤_}
+use Prim.Native.Nat.{ℕ, _+_, _*_, _≤_}
 use native.Mathlib.Omega.{arith}
 use lib.Dec.{lit<}
 use lib.ListN.{length}
@@ -19,7 +19,7 @@ use Rattle.mac_registers.specs.Tagging.{Tagging, begun-EIA3, begun-ZUC256, upda
 use Rattle.mac_registers.proofs.Cutting.{updated-append}
 use Rattle.mac_registers.proofs.Packed.{read-back, width-is}
 use Rattle.mac.specs.Calls.{Closing, Outcome, begunTag-128, begunTag-256, closing, refusedTag, startOutcome-128, startOutcome-256, startOutcome-EIA3, updateOutcome}
-use Rattle.mac.specs.Runs.{Updates, joined, more, none}
+use Rattle.mac.specs.Runs.{Tagged, Updates, joined, more, none}
 
 -- an accepted update and an accepted closing, told by their definitions
 pub update-accepted : (ok : Bool) (s : Stored) (m : List ℕ) → updateOutcome ok s m .number ≡ 0
@@ -56,6 +56,27 @@ updates-are {test} {w} v {s} (more {part = part} {parts = parts} o told ok rest)
         ap (λ (x : Outcome). x .state) told
         ∙ update-accepted (test s) s part (ap (λ (x : Outcome). x .number) (sym told) ∙ ok)
         ∙ at-state (λ x y. packed x (updated (x * 8) y part)) v st e
+
+-- a closing ends the run of a start and its updates
+pub ended : {Tag : Type 0} (test : Stored → Bool) (finishOutcome : Stored → List ℕ → ℕ → Closing Tag) (numberIn : Tag → ℕ)
+    (parts : List (List ℕ)) (start : Outcome) → start .number ≡ 0 → (last : Stored) → Updates test (start .state) parts last
+    → (tail : List ℕ) (l : ℕ) (end : Closing Tag) → end ≡ finishOutcome last tail l → end .number ≡ 0
+    → Tagged test finishOutcome numberIn start (joined parts ++ tail) (length (joined parts) * 8 + l) (numberIn (end .tag))
+ended test finishOutcome numberIn parts start begun last run tail l end told ok =
+    record {
+      parts = parts;
+      tail = tail;
+      l = l;
+      message-is = refl;
+      L-is = refl;
+      started = begun;
+      last = last;
+      updates = run;
+      end = end;
+      closes = told;
+      accepted = ok;
+      tag-is = refl;
+    }
 
 -- an accepted start passed its tests, and is begun over what was loaded
 module _ (tests : List Test) (low : Numbered tests) (begun start : Outcome) (told : start ≡ tested tests refusedTag begun) (ok : start .number ≡ 0) where

@@ -20,7 +20,7 @@ use Rattle.mac_registers.proofs.Packed.{tag-back, width-whole}
 use Rattle.mac_tagging.proofs.Rule.{rule-EIA3, rule-ZUC256}
 use Rattle.mac.specs.Calls.{Closing, Outcome, closing, finishOutcome-128, finishOutcome-256, noWords, startOutcome-128, startOutcome-256, startOutcome-EIA3}
 use Rattle.mac.specs.Runs.{Tagged-128, Tagged-256, joined}
-use Rattle.mac.proofs.Outcomes.{stream-is}
+use Rattle.standard.proofs.Generator.{stream-is}
 use Rattle.mac.proofs.Runs.{at-state, closing-accepted, start-128, start-256, start-EIA3, updates-are}
 
 -- ZUC-128 and EIA3, from any start whose accepted state is begun over what was loaded

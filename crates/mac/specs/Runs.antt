@@ -19,8 +19,9 @@ unfoldable pub joined : List (List ℕ) → List ℕ
 joined [] = []
 joined (part ∷ parts) = part ++ joined parts
 
--- a ZUC-128 or EIA3 tag of a message of L bits, from a start's outcome
-pub record Tagged-128 (start : Outcome) (message : List ℕ) (L tag : ℕ) : Type 0 where
+-- a tag of a message of L bits, from a start's outcome: by the test of its states, what its closing answers, and the number in the tag's words
+pub record Tagged {Tag : Type 0} (test : Stored → Bool) (finishOutcome : Stored → List ℕ → ℕ → Closing Tag) (numberIn : Tag → ℕ)
+    (start : Outcome) (message : List ℕ) (L tag : ℕ) : Type 0 where
   pub parts : List (List ℕ)
   pub tail : List ℕ
   pub l : ℕ
@@ -28,23 +29,15 @@ pub record Tagged-128 (start : Outcome) (message : List ℕ) (L tag : ℕ) : Typ
   pub L-is : L ≡ length (joined parts) * 8 + l
   pub started : start .number ≡ 0
   pub last : Stored
-  pub updates : Updates formed-128 (start .state) parts last
-  pub end : Closing ℕ
-  pub closes : end ≡ finishOutcome-128 last tail l
+  pub updates : Updates test (start .state) parts last
+  pub end : Closing Tag
+  pub closes : end ≡ finishOutcome last tail l
   pub accepted : end .number ≡ 0
-  pub tag-is : tag ≡ end .tag
+  pub tag-is : tag ≡ numberIn (end .tag)
 
--- a ZUC-256 tag of a width in bytes: the number in the words of the answer
-pub record Tagged-256 (width : ℕ) (start : Outcome) (message : List ℕ) (L tag : ℕ) : Type 0 where
-  pub parts : List (List ℕ)
-  pub tail : List ℕ
-  pub l : ℕ
-  pub message-is : message ≡ joined parts ++ tail
-  pub L-is : L ≡ length (joined parts) * 8 + l
-  pub started : start .number ≡ 0
-  pub last : Stored
-  pub updates : Updates formed (start .state) parts last
-  pub end : Closing (List ℕ)
-  pub closes : end ≡ finishOutcome-256 last tail l
-  pub accepted : end .number ≡ 0
-  pub tag-is : tag ≡ tagOf width (end .tag)
+-- of ZUC-128 or EIA3, and of ZUC-256 at a width in bytes
+abbrev pub Tagged-128 : Outcome → List ℕ → ℕ → ℕ → Type 0
+Tagged-128 = Tagged formed-128 finishOutcome-128 (λ tag. tag)
+
+abbrev pub Tagged-256 : ℕ → Outcome → List ℕ → ℕ → ℕ → Type 0
+Tagged-256 width = Tagged formed finishOutcome-256 (tagOf width)

@@ -10,3 +10,7 @@ Tight {K} {A} {R} {S} Post seen =
 -- whatever the arguments, nothing is left for the caller to show
 abbrev pub AsksNothing : {K : Type 0} {A : K → Type 0} → ((κs : K) → A κs → Type 0) → Type 0
 AsksNothing {K} {A} Pre = (κs : K) (a : A κs) → Pre κs a
+
+-- what the promise says of every outcome that it allows
+abbrev pub Says : {K : Type 0} {A R S : K → Type 0} → ((κs : K) → A κs → R κs → S κs → Type 0) → ((κs : K) → A κs → R κs → S κs → Type 0) → Type 0
+Says {K} {A} {R} {S} Post claim = (κs : K) (a : A κs) (r : R κs) (s : S κs) → Post κs a r s → claim κs a r s

@@ -3,24 +3,38 @@ use borrow.Author.Tests.{le-ltb, lt-ltb}
 use lib.Bits.{or-lt}
 use lib.Dec.{lit<, lit≤}
 use lib.ListN.{getD}
-use mathlib.Core.List.{List}
+use mathlib.Core.List.{List, [], _∷_}
 use mathlib.Core.Path.{_≡_, _∙_, ap, refl, subst, sym}
-use native.Mathlib.Nat.{zero-add}
+use native.Mathlib.Nat.{mod-lt, zero-add}
 use native.Mathlib.Omega.{arith}
-use Prim.Native.Nat.{ℕ, _%_, _*_, _+_, _-_, _/_, _<_, _^_, _≤_}
+use Prim.Native.Nat.{ℕ, zero, suc, _%_, _*_, _+_, _-_, _/_, _<_, _^_, _≤_}
 use Rattle.zuc_loading.proofs.Rows.{D-row, or-some}
 use Rattle.zuc_loading.specs.InnerRows.{Row}
 use Rattle.standard.proofs.Cells.{InRange, all-cells, Cells}
 use Rattle.standard.proofs.Linear.{M-lt}
 use Rattle.standard.proofs.Listed.{getD-listed, length-listed}
 use Rattle.standard.proofs.Window.{window-lt}
-use Rattle.standard.specs.Bits.{M}
+use Rattle.standard.specs.Bits.{M, byteOf}
 use Rattle.standard.specs.Loading.{D, IV₂₅₆, cells₂₅₆, load₁₂₈, load₂₅₆}
 use Rattle.standard.specs.Notation.{_‖₁₅_, _‖₇_, _‖₈_, _⟨_⟩, _∣_, listed}
 
 infixr 40 _&_
 abbrev pub Bytes : List ℕ → Type 0
 Bytes l = (i : ℕ) → l ⟨ i ⟩ < 2 ^ 8
+
+-- the same of a list written out
+abbrev pub AllBytes : List ℕ → Type 0
+AllBytes [] = Unit {0}
+AllBytes (b ∷ l) = (b < 2 ^ 8) × AllBytes l
+
+pub each-byte : (l : List ℕ) → AllBytes l → Bytes l
+each-byte [] h i = lit< tt
+each-byte (b ∷ l) h zero = h .0
+each-byte (b ∷ l) h (suc i) = each-byte l (h .1) i
+
+pub byte-lt : (x j : ℕ) → byteOf x j < 2 ^ 8
+unfolding byteOf
+byte-lt x j = mod-lt _ (lit< tt)
 
 cell-128 : (k d v : ℕ) → k < 2 ^ 8 → v < 2 ^ 8 → 0 < d → d < 2 ^ 15 → InRange (k ‖₁₅ d ‖₈ v)
 cell-128 k d v hk hv h0 hd = (omega arith, omega arith)
