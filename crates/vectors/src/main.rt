@@ -1,6 +1,10 @@
 // The published vectors and the refusals of document 01, run through the public calls and shown as a table.
+use vectors_parts::table::foot;
+use vectors_parts::table::head;
+
 fn main() {
-    vectors_parts::table::head();
-    vectors_streams::show();
-    vectors_tags::show();
+    let t = head();
+    let t = vectors_streams::show(t);
+    let t = vectors_tags::show(t);
+    foot(t);
 }

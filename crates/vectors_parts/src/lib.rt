@@ -59,3 +59,16 @@ pub fn part(s: &[u8], at: usize, n: usize) -> &[u8] {
 pub fn byte_at(s: &[u8], at: usize) -> u8 {
     if at < s.len() { s[at] } else { 0 }
 }
+
+// Whether two runs of words are the same.
+pub fn same_wide(a: &[u64], b: &[u64]) -> bool {
+    if a.len() != b.len() {
+        return false;
+    }
+    for i in 0..a.len() {
+        if a[i] != b[i] {
+            return false;
+        }
+    }
+    true
+}
