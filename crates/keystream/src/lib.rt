@@ -5,8 +5,8 @@ ghost use Rattle.keystream.specs.Starts.{acceptedStart, refusedStart, st
 ghost use Rattle.standard.proofs.Cells.{Cells};
 ghost use Rattle.zuc.specs.Reading.{stateOf};
 use zuc::Zuc;
-use zuc::boxes::S0;
-use zuc::boxes::S1;
+use zuc::boxes::s0;
+use zuc::boxes::s1;
 
 pub mod eea3;
 pub mod zuc128;
@@ -69,8 +69,8 @@ fn started_from(loaded: Zuc) -> Start
     requires { ⌜ Cells (stateOf loaded .cells) ⌝ }
     ensures { λ r. ⌜ startTold r ≡ acceptedStart (stateOf loaded) ⌝ }
 {
-    let t0 = S0;
-    let t1 = S1;
+    let t0 = s0();
+    let t1 = s1();
     let state = zuc::init(&t0, &t1, loaded);
     Start {
         answer: StartAnswer::Started,
@@ -88,8 +88,8 @@ pub fn generate(state: Zuc) -> Drew
             state,
         };
     }
-    let t0 = S0;
-    let t1 = S1;
+    let t0 = s0();
+    let t1 = s1();
     let drawn = zuc::draw(&t0, &t1, state);
     let next = drawn.next;
     Drew {
@@ -117,8 +117,8 @@ pub fn fill(state: Zuc, buffer: &mut [u32]) -> Filling
             state,
         };
     }
-    let t0 = S0;
-    let t1 = S1;
+    let t0 = s0();
+    let t1 = s1();
     let next = zuc_bulk::words_into(&t0, &t1, state, buffer);
     Filling {
         answer: FillAnswer::Filled,

@@ -7,19 +7,15 @@ use Prim.Native.Nat.{ℕ, _+_, _*_, _≤_}
 use lib.ListN.{length}
 use Rattle.standard.specs.Generator.{State, after, started}
 use Rattle.standard.specs.Integrity.{drawnAfter-EIA3, drawnAfter-ZUC256, drawnByTag-EIA3, drawnByTag-ZUC256}
-use Rattle.standard.specs.Loading.{load₁₂₈, load₂₅₆, rowOf}
-use Rattle.standard.proofs.Generator.{sound-started}
 use Rattle.mac_registers.specs.Stored.{packed, taggingOf}
 use Rattle.mac_registers.specs.Inner.{Held, Width, extraState}
 use Rattle.standard.specs.States.{Stored, formed, formed-128}
 use Rattle.mac_registers.specs.Tagging.{Tagging, begun-EIA3, begun-ZUC256, ended, leftOver, updated}
-use Rattle.mac_registers.proofs.Packed.{and-both, good-EIA3, good-ZUC256, good-updated, well-formed, width-whole}
+use Rattle.mac_registers.proofs.Packed.{width-whole}
 use Rattle.mac_tagging.proofs.Rule.{drawn-EIA3, drawn-ZUC256, drawn-closing-EIA3, drawn-closing-ZUC256}
 use Rattle.standard.specs.Refusals.{tested}
 use Rattle.mac.specs.Calls.{updateOutcome}
 use Rattle.mac.specs.Runs.{Updates, joined}
-use Rattle.zuc_loading.proofs.Loaded.{Bytes, cells-128, cells-256}
-use Rattle.mac.proofs.Accepted.{row-of}
 use Rattle.mac.proofs.Runs.{at-state, updates-are}
 
 -- ZUC-128 and EIA3: s is the state of an accepted start, last the state after accepted updates

@@ -29,7 +29,7 @@ use Rattle.mac_registers.specs.Inner.{Width}
 use Rattle.mac_registers.specs.Tagging.{begun-EIA3, begun-ZUC256, closed-EIA3, closed-ZUC256, updated}
 use Rattle.mac_registers.proofs.Packed.{width-is, width-whole}
 use Rattle.mac_tagging.proofs.Rule.{rule-EIA3, rule-ZUC256}
-use Rattle.mac.specs.Calls.{Outcome, closing, noWords, onceOutcome-128, onceOutcome-256, onceOutcome-EIA3, refusedOnce, refusedTag, startOutcome-128, startOutcome-256, startOutcome-EIA3}
+use Rattle.mac.specs.Calls.{Outcome, closing, noWords, onceOutcome-128, onceOutcome-256, onceOutcome-EIA3, refusedClosing, refusedOnce, refusedTag, startOutcome-128, startOutcome-256, startOutcome-EIA3}
 use Rattle.mac.specs.Inner.{begun-128, begun-256, once-from-128, once-from-256, passedUp}
 
 -- an answer that a `match` found to be another than `Started`
@@ -65,11 +65,11 @@ key-refused BadIv h w = absurd (⊎-elim (λ (e : 3 ≡ 1). omega arith) (λ (e 
 
 -- a closing, by its tests
 module _ {Tag : Type 0} (none : Tag) (ok : Bool) (s : Stored) (tail : List ℕ) (l : ℕ) (tag : Tag) where
-  pub bad-state : ok ≡ false → record { number = badState; tag = none; state = s } ≡ closing none ok s tail l tag
+  pub bad-state : ok ≡ false → refusedClosing none s badState ≡ closing none ok s tail l tag
   unfolding closing tested
   bad-state e = rw e refl
 
-  pub bad-bits : ok ≡ true → leb l (length tail * 8) ≡ false → record { number = badBits; tag = none; state = s } ≡ closing none ok s tail l tag
+  pub bad-bits : ok ≡ true → leb l (length tail * 8) ≡ false → refusedClosing none s badBits ≡ closing none ok s tail l tag
   unfolding closing tested
   bad-bits e f = rw (e, f) refl
 

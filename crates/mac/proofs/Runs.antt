@@ -18,7 +18,7 @@ use Rattle.mac_registers.specs.Inner.{Width}
 use Rattle.mac_registers.specs.Tagging.{Tagging, begun-EIA3, begun-ZUC256, updated}
 use Rattle.mac_registers.proofs.Cutting.{updated-append}
 use Rattle.mac_registers.proofs.Packed.{read-back, width-is}
-use Rattle.mac.specs.Calls.{Closing, Outcome, begunTag-128, begunTag-256, closing, refusedTag, startOutcome-128, startOutcome-256, startOutcome-EIA3, updateOutcome}
+use Rattle.mac.specs.Calls.{Closing, Outcome, begunTag-128, begunTag-256, closing, refusedClosing, refusedTag, startOutcome-128, startOutcome-256, startOutcome-EIA3, updateOutcome}
 use Rattle.mac.specs.Runs.{Tagged, Updates, joined, more, none}
 
 -- an accepted update and an accepted closing, told by their definitions
@@ -32,11 +32,10 @@ pub closing-accepted : {Tag : Type 0} (empty : Tag) (ok : Bool) (s : Stored) (ta
     → (l ≤ length tail * 8) × (closing empty ok s tail l tag .tag ≡ tag)
 unfolding closing
 closing-accepted {Tag} empty ok s tail l tag e =
-    let refused : ℕ → Closing Tag = λ n. record { number = n; tag = empty; state = s } in
     let closed : Closing Tag = record { number = accepted; tag = tag; state = zeroStored } in
     let tests : List Test = stateTest ok ∷ bitsTest l tail ∷ [] in
-    let all : AllPass tests = accepted-passed (λ (o : Closing Tag). o .number) refused (λ n. refl) closed tests (lit< tt, (lit< tt, tt)) e in
-    (leb-true l (length tail * 8) (all .1 .0), ap (λ (o : Closing Tag). o .tag) (passed tests refused closed all))
+    let all : AllPass tests = accepted-passed (λ (o : Closing Tag). o .number) (refusedClosing empty s) (λ n. refl) closed tests (lit< tt, (lit< tt, tt)) e in
+    (leb-true l (length tail * 8) (all .1 .0), ap (λ (o : Closing Tag). o .tag) (passed tests (refusedClosing empty s) closed all))
 
 -- a packed state, stepped
 pub at-state : {A : Type 0} (F : ℕ → Tagging → A) {w : ℕ} → Width w → (st : Tagging) {s : Stored} → s ≡ packed w st → F (s .width) (taggingOf s) ≡ F w st

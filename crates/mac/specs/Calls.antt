@@ -100,10 +100,12 @@ abbrev pub finishTold-128 : Finish128 → Closing ℕ
 finishTold-128 r = record { number = tagNumber-128 (r .answer); tag = tagWord (r .answer); state = storedOf (r .mac .state) }
 
 -- a refusal hands back a tag of zero and the caller's state; else the tag, and a state of zeros
+abbrev pub refusedClosing : {Tag : Type 0} → Tag → Stored → ℕ → Closing Tag
+refusedClosing none s number = record { number = number; tag = none; state = s }
+
 unfoldable pub closing : {Tag : Type 0} → Tag → Bool → Stored → List ℕ → ℕ → Tag → Closing Tag
 closing none ok s tail l tag =
-    tested (stateTest ok ∷ bitsTest l tail ∷ []) (λ number. record { number = number; tag = none; state = s })
-    (record { number = accepted; tag = tag; state = zeroStored })
+    tested (stateTest ok ∷ bitsTest l tail ∷ []) (refusedClosing none s) (record { number = accepted; tag = tag; state = zeroStored })
 
 unfoldable pub finishOutcome-128 : Stored → List ℕ → ℕ → Closing ℕ
 finishOutcome-128 s tail l = closing 0 (formed-128 s) s tail l (closed-EIA3 (taggingOf s) tail l)

@@ -15,8 +15,8 @@ use mac_registers::forms::zero_state;
 use mac_tagging::closing::close_128;
 use mac_tagging::updates::begin_128;
 use words::bits_fit;
-use zuc::boxes::S0;
-use zuc::boxes::S1;
+use zuc::boxes::s0;
+use zuc::boxes::s1;
 
 pub mod eia3;
 pub mod zuc128;
@@ -128,8 +128,8 @@ fn update_state(ok: bool, state: TagState, message: &[u8]) -> Update
             state,
         };
     }
-    let t0 = S0;
-    let t1 = S1;
+    let t0 = s0();
+    let t1 = s1();
     let next = mac_tagging::updates::update(&t0, &t1, state, message);
     Update {
         answer: UpdateAnswer::Done,
@@ -156,8 +156,8 @@ fn begin_from(start: Start) -> Start128
     let g = start.state;
     match answer {
         StartAnswer::Started => {
-            let t0 = S0;
-            let t1 = S1;
+            let t0 = s0();
+            let t1 = s1();
             let state = begin_128(&t0, &t1, g);
             Start128 {
                 answer: StartAnswer::Started,
@@ -180,8 +180,8 @@ fn tag_from(start: Start, message: &[u8], l: usize) -> Once128
             if !bits_fit(l, message.len()) {
                 return Once128::BadBits;
             }
-            let t0 = S0;
-            let t1 = S1;
+            let t0 = s0();
+            let t1 = s1();
             let state = begin_128(&t0, &t1, g);
             Once128::Tag(close_128(&t0, &t1, state, message, l))
         }

@@ -16,8 +16,8 @@ use super::update_state;
 use mac_registers::forms::zero_state;
 use mac_tagging::closing::close_128;
 use words::bits_fit;
-use zuc::boxes::S0;
-use zuc::boxes::S1;
+use zuc::boxes::s0;
+use zuc::boxes::s1;
 
 // A tag state, or refusal 2 for a key and 3 for an IV that is not 16 bytes.
 pub fn new(key: &[u8], iv: &[u8]) -> Start128
@@ -58,8 +58,8 @@ pub fn finish(mac: Mac128, tail: &[u8], l: usize) -> Finish128
             mac,
         };
     }
-    let t0 = S0;
-    let t1 = S1;
+    let t0 = s0();
+    let t1 = s1();
     let tag = close_128(&t0, &t1, s, tail, l);
     let zero = zero_state();
     Finish128 {

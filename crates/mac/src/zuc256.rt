@@ -16,8 +16,8 @@ use mac_registers::forms::zero_state;
 use mac_tagging::closing::close_256;
 use mac_tagging::updates::begin_256;
 use words::bits_fit;
-use zuc::boxes::S0;
-use zuc::boxes::S1;
+use zuc::boxes::s0;
+use zuc::boxes::s1;
 
 fn refused(answer: StartAnswer) -> Start256
     ensures { λ r. ⌜ (r .answer ≡ answer) × (storedOf (r .mac .state) ≡ zeroStored) ⌝ }
@@ -39,8 +39,8 @@ pub fn new(width: usize, key: &[u8], iv: &[u8]) -> Start256
     let g = start.state;
     match answer {
         StartAnswer::Started => {
-            let t0 = S0;
-            let t1 = S1;
+            let t0 = s0();
+            let t1 = s1();
             let state = begin_256(&t0, &t1, width, g);
             Start256 {
                 answer: StartAnswer::Started,
@@ -83,8 +83,8 @@ pub fn finish(mac: Mac256, tail: &[u8], l: usize) -> Finish256
             mac,
         };
     }
-    let t0 = S0;
-    let t1 = S1;
+    let t0 = s0();
+    let t1 = s1();
     let tag = close_256(&t0, &t1, s, tail, l);
     let zero = zero_state();
     Finish256 {
@@ -105,8 +105,8 @@ pub fn compute(width: usize, key: &[u8], iv: &[u8], message: &[u8], l: usize) ->
             if !bits_fit(l, message.len()) {
                 return Once256::BadBits;
             }
-            let t0 = S0;
-            let t1 = S1;
+            let t0 = s0();
+            let t1 = s1();
             let state = begin_256(&t0, &t1, width, g);
             let tag = close_256(&t0, &t1, state, message, l);
             Once256::Tag(tag[0], tag[1])

@@ -9,8 +9,8 @@ ghost use Rattle.standard.specs.Notation.{eachFrom};
 ghost use Rattle.zuc.specs.Reading.{stateOf};
 use mask_bulk::mask_all;
 use zuc::Zuc;
-use zuc::boxes::S0;
-use zuc::boxes::S1;
+use zuc::boxes::s0;
+use zuc::boxes::s1;
 
 // What a call answers: the words drawn, or why it was refused.
 pub enum MaskAnswer {
@@ -76,8 +76,8 @@ fn mask(start: Zuc, buf: &mut [u8], bits: usize, kept: usize) -> Masked
             state: start,
         };
     }
-    let t0 = S0;
-    let t1 = S1;
+    let t0 = s0();
+    let t1 = s1();
     let state = mask_all(&t0, &t1, start, buf);
     keep_bits(buf, bits / 8, kept);
     Masked {

@@ -6,7 +6,7 @@ ghost use Rattle.standard.specs.Generator.{S};
 use words::word_of;
 
 // The box S0.
-pub const S0: [u8; 256] = [
+const S0: [u8; 256] = [
     0x3e,
     0x72,
     0x5b,
@@ -266,7 +266,7 @@ pub const S0: [u8; 256] = [
 ];
 
 // The box S1.
-pub const S1: [u8; 256] = [
+const S1: [u8; 256] = [
     0x55,
     0xc2,
     0x63,
@@ -524,6 +524,19 @@ pub const S1: [u8; 256] = [
     0xe2,
     0xf2,
 ];
+
+// The boxes, to be lent. A constant is dear to prove wherever it is named: here once.
+pub fn s0() -> [u8; 256]
+    ensures { λ r. ⌜ r ≡ S₀-table ⌝ }
+{
+    S0
+}
+
+pub fn s1() -> [u8; 256]
+    ensures { λ r. ⌜ r ≡ S₁-table ⌝ }
+{
+    S1
+}
 
 // The entry of a box at a byte.
 pub fn entry(table: &[u8; 256], b: u8) -> u8

@@ -3,7 +3,6 @@ use borrow.Author.Tests.{not-false, not-true}
 use mathlib.Core.Path.{_∙_, refl, sym}
 use Rattle.keystream.specs.Draws.{drawOutcome}
 use Rattle.standard.proofs.Cells.{wellFormed-cells}
-use Rattle.standard.specs.Boxes.{S₀-table, S₁-table}
 use Rattle.standard.specs.Refusals.{tested}
 use borrow.Author.Needs.{needs}
 use Rattle.keystream.proofs.generate.Statement.{statement}
@@ -14,19 +13,18 @@ unfolding drawOutcome tested
 returns c = rw (sym (c .before .is-well-formed .ensures) ∙ not-true (c .before .is-well-formed .result) (c .if1 .taken)) refl
 
 draw-requires : tie.Need-draw-requires
-unfolding S₀-table S₁-table
 draw-requires c κs =
-    let passed = c .before .before in
-    (refl, (refl, wellFormed-cells _ (search needs) (sym (passed .before .is-well-formed .ensures) ∙ not-false (passed .before .is-well-formed .result) (passed .if1 .left))))
+    let passed = c .before .before .before .before in
+    (c .before .before .before .s0 .ensures, (c .before .before .s1 .ensures, wellFormed-cells _ (search needs) (sym (passed .before .is-well-formed .ensures) ∙ not-false (passed .before .is-well-formed .result) (passed .if1 .left))))
 
 returns-2 : tie.Need-returns-2
 unfolding drawOutcome tested
 returns-2 c =
-    let passed = c .before .before .before .before in
+    let passed = c .before .before .before .before .before .before in
     rw (sym (passed .before .is-well-formed .ensures) ∙ not-false (passed .before .is-well-formed .result) (passed .if1 .left))
     (λ i. record { number = 0; word = c .before .draw .ensures i .word; state = c .before .draw .ensures i .state })
 
 pub generate-spec : {M : Type 1} → statement M
 generate-spec =
     tie.close
-    (tie.spec (λ c κs. search needs) returns draw-requires returns-2)
+    (tie.spec (λ c κs. search needs) returns (λ c κs. search needs) (λ c κs. search needs) draw-requires returns-2)

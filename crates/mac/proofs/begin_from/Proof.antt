@@ -1,7 +1,6 @@
 -- `mac::begin_from` meets its contract: each answer of the keystream's start keeps its number.
 use mathlib.Core.Path.{refl, ap, _∙_}
 use borrow.Author.Needs.{needs}
-use Rattle.standard.specs.Boxes.{S₀-table, S₁-table}
 use Rattle.keystream.specs.declared.StartAnswer.{StartAnswer}
 use Rattle.keystream.specs.Starts.{startNumber, startTold}
 use Rattle.mac_registers.specs.Stored.{storedOf}
@@ -11,16 +10,15 @@ use Rattle.mac.proofs.begin_from.Statement.{statement}
 use Rattle.mac.proofs.begin_from.Tie as tie
 
 begin-128-requires : tie.Need-begin-128-requires
-unfolding S₀-table S₁-table
 begin-128-requires c κs =
-    let m = c .before .before in
+    let m = c .before .before .before .before in
     let s = m .before .before .before in
-    (refl, (refl, s .pre (ap startNumber (m .enum-told .given .1))))
+    (c .before .before .before .s0 .ensures, (c .before .before .s1 .ensures, s .pre (ap startNumber (m .enum-told .given .1))))
 
 returns : tie.Need-returns
 unfolding begun-128
 returns c =
-    let m = c .before .before .before in
+    let m = c .before .before .before .before .before in
     let s = m .before .before .before in
     started-as (startTold (s .args .start)) (storedOf (c .begin-128 .result)) _ (ap startNumber (m .enum-told .given .1)) (c .begin-128 .ensures)
 
@@ -36,4 +34,4 @@ returns-2 c =
 pub begin-from-spec : {M : Type 1} → statement M
 begin-from-spec =
     tie.close
-    (tie.spec (λ c. search needs) begin-128-requires (λ c κs. search needs) returns returns-2)
+    (tie.spec (λ c. search needs) (λ c κs. search needs) (λ c κs. search needs) begin-128-requires (λ c κs. search needs) returns returns-2)

@@ -7,7 +7,6 @@ use lib.ListN.{length}
 use borrow.Author.Needs.{needs}
 use borrow.Author.Tests.{leb-true, not-false, not-true}
 use denote.Ref.{now}
-use Rattle.standard.specs.Boxes.{S₀-table, S₁-table}
 use Rattle.keystream.specs.Starts.{startNumber}
 use Rattle.zuc.specs.Reading.{stateOf}
 use Rattle.mac_registers.specs.Stored.{packed}
@@ -31,23 +30,22 @@ returns c =
     rw (ap startNumber (m .enum-told .given .1), sym (f .bits-fit .ensures) ∙ not-true (f .bits-fit .result) (c .if1 .taken)) refl
 
 begin-128-requires : tie.Need-begin-128-requires
-unfolding S₀-table S₁-table
 begin-128-requires c κs =
-    let m = c .before .before .before .before in
+    let m = c .before .before .before .before .before .before in
     let s = m .before .before .before .before in
-    (refl, (refl, s .pre .0 (ap startNumber (m .enum-told .given .1))))
+    (c .before .before .before .s0 .ensures, (c .before .before .s1 .ensures, s .pre .0 (ap startNumber (m .enum-told .given .1))))
 
 close-128-requires : tie.Need-close-128-requires
-unfolding S₀-table S₁-table packed
+unfolding packed
 close-128-requires c κs =
     let b = c .before .before in
-    let i = b .before .before .before in
+    let i = b .before .before .before .before .before in
     let f = i .before in
     let m = f .before in
     let s = m .before .before .before .before in (
-      refl,
+      b .before .before .before .before .s0 .ensures,
       (
-        refl,
+        b .before .before .before .s1 .ensures,
         (
           held-as (b .begin-128 .ensures) (good-EIA3 (stateOf (s .args .start .state)) (s .pre .0 (ap startNumber (m .enum-told .given .1)))),
           (
@@ -62,7 +60,7 @@ returns-2 : tie.Need-returns-2
 unfolding once-from-128 tested
 returns-2 c =
     let b = c .before .before .before in
-    let i = b .before .before .before in
+    let i = b .before .before .before .before .before in
     let f = i .before in
     let m = f .before in
     let s = m .before .before .before .before in
@@ -88,6 +86,8 @@ tag-from-spec =
     (λ c. search needs)
     (λ c κs. search needs)
     returns
+    (λ c κs. search needs)
+    (λ c κs. search needs)
     begin-128-requires
     close-128-requires
     (λ c. search needs)

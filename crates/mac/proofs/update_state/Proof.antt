@@ -1,7 +1,7 @@
 -- `mac::update_state` meets its contract: refused, or the inner update.
 use mathlib.Core.Path.{refl, ap}
+use borrow.Author.Needs.{needs}
 use borrow.Author.Tests.{not-false, not-true}
-use Rattle.standard.specs.Boxes.{S₀-table, S₁-table}
 use Rattle.standard.specs.States.{Stored}
 use Rattle.standard.specs.Refusals.{tested}
 use Rattle.mac.specs.Calls.{updateOutcome}
@@ -15,18 +15,17 @@ returns c =
     rw (not-true (s .args .ok) (c .if1 .taken)) refl
 
 update-requires : tie.Need-update-requires
-unfolding S₀-table S₁-table
 update-requires c κs =
-    let i = c .before .before in
+    let i = c .before .before .before .before in
     let s = i .before .before in
-    (refl, (refl, s .pre (not-false (s .args .ok) (i .if1 .left))))
+    (c .before .before .before .s0 .ensures, (c .before .before .s1 .ensures, s .pre (not-false (s .args .ok) (i .if1 .left))))
 
 returns-2 : tie.Need-returns-2
 unfolding updateOutcome tested
 returns-2 c =
-    let i = c .before .before .before in
+    let i = c .before .before .before .before .before in
     let s = i .before .before in
     rw (not-false (s .args .ok) (i .if1 .left)) (ap (λ (x : Stored). record { number = 0; state = x }) (c .update .ensures))
 
 pub update-state-spec : {M : Type 1} → statement M
-update-state-spec = tie.close (tie.spec returns update-requires returns-2)
+update-state-spec = tie.close (tie.spec returns (λ c κs. search needs) (λ c κs. search needs) update-requires returns-2)

@@ -1,11 +1,11 @@
 -- `mask`: the two tests decide the outcome; past them every byte is masked, then cleared, which is the mode's mask.
-use mathlib.Core.Path.{refl, sym, ap, _∙_}
+use mathlib.Core.Path.{_≡_, sym, ap, _∙_}
 use Prim.Native.Nat.{_*_, _/_, _+_}
 use denote.Ref.{now}
+use native.Mathlib.Omega.{arith}
 use lib.ListN.{length}
 use borrow.Author.Needs.{needs}
 use borrow.Author.Tests.{not-true, not-false}
-use Rattle.standard.specs.Boxes.{S₀-table, S₁-table}
 use Rattle.standard.specs.Confidentiality.{maskedBuffer, wordsToMask}
 use Rattle.standard.specs.Notation.{eachFrom}
 use Rattle.standard.proofs.Cells.{wellFormed-cells}
@@ -24,24 +24,24 @@ returns-2 c =
     (sym (c .before .bits-fit .ensures) ∙ not-true _ (c .if2 .taken))
 
 mask-all-requires : tie.Need-mask-all-requires
-unfolding S₀-table S₁-table
 mask-all-requires c κs =
-    let t = c .before .before .before in (
-      refl,
-      (refl, wellFormed-cells _ (search needs) (sym (t .before .before .before .is-well-formed .ensures) ∙ not-false _ (t .before .before .if1 .left))),
+    let t = c .before .before .before .before .before in (
+      c .before .before .before .before .s0 .ensures,
+      (c .before .before .before .s1 .ensures, wellFormed-cells _ (search needs) (sym (t .before .before .before .is-well-formed .ensures) ∙ not-false _ (t .before .before .if1 .left))),
     )
 
 returns-3 : tie.Need-returns-3
 unfolding maskedBuffer
 returns-3 c =
     let m = c .before .before .before .before .before .before in
-    let t = m .before .before .before .before in
+    let t = m .before .before .before .before .before .before in
     let a = t .before .before .before .before .before .args in
+    let counted : length (now (a .buf)) / 4 + 1 ≡ wordsToMask (length (now (a .buf))) = omega arith in
     accepted _ _ _ _ (sym (t .before .before .before .is-well-formed .ensures) ∙ not-false _ (t .before .before .if1 .left))
     (sym (t .before .bits-fit .ensures) ∙ not-false _ (t .if2 .left))
     (λ i. record {
       number = 0;
-      count = wordsToMask (length (now (a .buf)));
+      count = counted i;
       state = m .mask-all .ensures .0 i;
       buffer = (c .before .before .keep-bits .ensures ∙ ap (eachFrom (cleared (a .bits / 8 * 8 + a .kept)) 0) (m .mask-all .ensures .1) ∙ each-each _ _ 0 _) i;
     })
@@ -49,5 +49,5 @@ returns-3 c =
 pub mask-spec : {M : Type 1} → statement M
 mask-spec =
     tie.close
-    (tie.spec (λ c κs. search needs) returns (λ c κs. search needs) returns-2 mask-all-requires (λ c κs. search needs) (λ c. search needs)
+    (tie.spec (λ c κs. search needs) returns (λ c κs. search needs) returns-2 (λ c κs. search needs) (λ c κs. search needs) mask-all-requires (λ c κs. search needs) (λ c. search needs)
     (λ c. search needs) returns-3)

@@ -6,7 +6,6 @@ use lib.ListN.{length}
 use borrow.Author.Needs.{needs}
 use borrow.Author.Tests.{leb-true, not-false, not-true}
 use denote.Ref.{now}
-use Rattle.standard.specs.Boxes.{S₀-table, S₁-table}
 use Rattle.standard.proofs.Cells.{Cells}
 use Rattle.zuc.specs.Reading.{stateOf}
 use Rattle.keystream.specs.Starts.{StartOutcome, startNumber, startTold}
@@ -57,26 +56,24 @@ returns c =
     sym (rw (ap startNumber (m .enum-told .given .1), sym (f .bits-fit .ensures) ∙ not-true (f .bits-fit .result) (c .if1 .taken)) refl) ∙ told n
 
 begin-256-requires : tie.Need-begin-256-requires
-unfolding S₀-table S₁-table
 begin-256-requires c κs =
-    let m = c .before .before .before .before in
+    let m = c .before .before .before .before .before .before in
     let n = m .before .before .before in
     let e = ap startNumber (m .enum-told .given .1) in
-    (refl, (refl, (sound n e, width n e)))
+    (c .before .before .before .s0 .ensures, (c .before .before .s1 .ensures, (sound n e, width n e)))
 
 close-256-requires : tie.Need-close-256-requires
-unfolding S₀-table S₁-table
 close-256-requires c κs =
     let b = c .before .before in
-    let i = b .before .before .before in
+    let i = b .before .before .before .before .before in
     let f = i .before in
     let m = f .before in
     let n = m .before .before .before in
     let a = n .before .before .before .before .args in
     let e = ap startNumber (m .enum-told .given .1) in (
-      refl,
+      b .before .before .before .before .s0 .ensures,
       (
-        refl,
+        b .before .before .before .s1 .ensures,
         (
           held-as (b .begin-256 .ensures) (good-ZUC256 (width n e) (stateOf (n .new-with-d .result .state)) (sound n e)),
           leb-true (a .l) (length (now (a .message)) * 8) (sym (f .bits-fit .ensures) ∙ not-false (f .bits-fit .result) (i .if1 .left)),
@@ -88,7 +85,7 @@ returns-2 : tie.Need-returns-2
 unfolding once-from-256 tested
 returns-2 c =
     let b = c .before .before .before in
-    let i = b .before .before .before in
+    let i = b .before .before .before .before .before in
     let f = i .before in
     let m = f .before in
     let n = m .before .before .before in
@@ -128,6 +125,8 @@ compute-spec =
     (λ c. search needs)
     (λ c κs. search needs)
     returns
+    (λ c κs. search needs)
+    (λ c κs. search needs)
     begin-256-requires
     close-256-requires
     (λ c. search needs)

@@ -7,7 +7,6 @@ use lib.ListN.{length}
 use borrow.Author.Needs.{needs}
 use borrow.Author.Tests.{leb-true, not-false, not-true}
 use denote.Ref.{now}
-use Rattle.standard.specs.Boxes.{S₀-table, S₁-table}
 use Rattle.mac_registers.specs.Stored.{storedOf, tagWords, taggingOf}
 use Rattle.standard.specs.States.{formed}
 use Rattle.mac_registers.specs.Tagging.{closed-ZUC256}
@@ -40,21 +39,20 @@ returns-2 c =
     (ok f (not-false (f .is-formed .result) (b .before .if1 .left))) (sym (b .bits-fit .ensures) ∙ not-true (b .bits-fit .result) (c .if2 .taken))
 
 close-256-requires : tie.Need-close-256-requires
-unfolding S₀-table S₁-table
 close-256-requires c κs =
-    let i = c .before .before in
+    let i = c .before .before .before .before in
     let b = i .before in
     let f = b .before .before in
     let a = f .before .before .before .args in
     let t = not-false (f .is-formed .result) (b .before .if1 .left) in
     let l : leb (a .l) (length (now (a .tail)) * 8) ≡ true = sym (b .bits-fit .ensures) ∙ not-false (b .bits-fit .result) (i .if2 .left) in
-    (refl, (refl, (f .is-formed .ensures .1 t, leb-true (a .l) (length (now (a .tail)) * 8) l)))
+    (c .before .before .before .s0 .ensures, (c .before .before .s1 .ensures, (f .is-formed .ensures .1 t, leb-true (a .l) (length (now (a .tail)) * 8) l)))
 
 returns-3 : tie.Need-returns-3
 unfolding finishOutcome-256
 returns-3 c =
     let d = c .before in
-    let i = d .before .before .before in
+    let i = d .before .before .before .before .before in
     let b = i .before in
     let f = b .before .before in
     let a = f .before .before .before .args in
@@ -70,6 +68,8 @@ finish-spec =
     returns
     (λ c κs. search needs)
     returns-2
+    (λ c κs. search needs)
+    (λ c κs. search needs)
     close-256-requires
     (λ c κs. search needs)
     (λ c. search needs)

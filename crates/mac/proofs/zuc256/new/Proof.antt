@@ -2,7 +2,6 @@
 use mathlib.Core.Path.{_≡_, refl, sym, ap, _∙_, subst}
 use borrow.Author.Needs.{needs}
 use denote.Ref.{now}
-use Rattle.standard.specs.Boxes.{S₀-table, S₁-table}
 use Rattle.keystream.specs.declared.StartAnswer.{StartAnswer}
 use Rattle.keystream.specs.Starts.{StartOutcome, startNumber, startTag₂₅₆, startTold}
 use Rattle.mac_registers.specs.Stored.{storedOf}
@@ -18,17 +17,16 @@ zero-number : (n : tie.After-new-with-d) → startTold (n .new-with-d .result) .
 zero-number n e = ap (λ (o : StartOutcome). o .number) (sym (n .new-with-d .ensures)) ∙ e
 
 begin-256-requires : tie.Need-begin-256-requires
-unfolding S₀-table S₁-table
 begin-256-requires c κs =
-    let m = c .before .before in
+    let m = c .before .before .before .before in
     let n = m .before .before .before in
     let v = n .before in
     let k = v .before in
     let a = k .before .args in
     let e = ap startNumber (m .enum-told .given .1) in (
-      refl,
+      c .before .before .before .s0 .ensures,
       (
-        refl,
+        c .before .before .s1 .ensures,
         (
           subst Ready (sym (n .new-with-d .ensures))
               (ready-256 (a .width) (now (a .key)) (now (a .iv)) (λ i. k .shared-slice-known .given i .fits) (λ i. v .shared-slice-known2 .given i .fits)) e,
@@ -40,7 +38,7 @@ begin-256-requires c κs =
 returns : tie.Need-returns
 unfolding begun-256
 returns c =
-    let m = c .before .before .before in
+    let m = c .before .before .before .before .before in
     let n = m .before .before .before in
     let a = n .before .before .before .args in
     started-as (startTold (n .new-with-d .result)) (storedOf (c .begin-256 .result)) _ (ap startNumber (m .enum-told .given .1)) (c .begin-256 .ensures)
@@ -62,4 +60,4 @@ returns-2 c =
 pub new-spec : {M : Type 1} → statement M
 new-spec =
     tie.close
-    (tie.spec (λ c κs. search needs) (λ c. search needs) begin-256-requires (λ c κs. search needs) returns returns-2)
+    (tie.spec (λ c κs. search needs) (λ c. search needs) (λ c κs. search needs) (λ c κs. search needs) begin-256-requires (λ c κs. search needs) returns returns-2)
