@@ -1,2 +1,3 @@
 pub mod Generators
 pub mod Tags
+pub mod Runs

@@ -45,7 +45,7 @@ unfolding arrayOf
 array-length σ e = length-append (σ .cells) (σ .R₁ ∷ σ .R₂ ∷ []) ∙ ap (λ (n : ℕ). n + 2) e
 
 -- a number out of two lists, by what holds of each entry of both and of 0
-append-fits : (P : ℕ → Type 0) (xs ys : List ℕ) → ((k : ℕ) → P (xs ⟨ k ⟩)) → ((k : ℕ) → P (ys ⟨ k ⟩)) → (k : ℕ) → P ((xs ++ ys) ⟨ k ⟩)
+pub append-fits : (P : ℕ → Type 0) (xs ys : List ℕ) → ((k : ℕ) → P (xs ⟨ k ⟩)) → ((k : ℕ) → P (ys ⟨ k ⟩)) → (k : ℕ) → P ((xs ++ ys) ⟨ k ⟩)
 append-fits P [] ys px py k = py k
 append-fits P (x ∷ xs) ys px py zero = px 0
 append-fits P (x ∷ xs) ys px py (suc k) = append-fits P xs ys (λ j. px (suc j)) py k

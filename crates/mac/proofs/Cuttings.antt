@@ -27,7 +27,7 @@ use Rattle.mac_registers.proofs.Packed.{and-both, good-EIA3, good-ZUC256, good-
 use Rattle.mac.specs.Calls.{Closing, Outcome, begunTag-128, begunTag-256, closing, finishOutcome-128, finishOutcome-256, refusedTag, startOutcome-128, startOutcome-256, startOutcome-EIA3, updateOutcome}
 use Rattle.mac.specs.Runs.{Tagged, Tagged-128, Tagged-256, Updates, joined, more, none}
 use Rattle.mac.proofs.Accepted.{row-of}
-use Rattle.mac.proofs.Runs.{at-state, ended, update-accepted, updates-are}
+use Rattle.mac.proofs.Runs.{ended, update-is, updates-are}
 
 update-ok : (ok : Bool) (s : Stored) (m : List ℕ) → ok ≡ true → updateOutcome ok s m .number ≡ 0
 unfolding updateOutcome tested
@@ -40,12 +40,10 @@ module _ {Tag : Type 0} (test : Stored → Bool) (finishOutcome : Stored → Lis
   run : (parts : List (List ℕ)) (st : Tagging) → Good w st → (s : Stored) → s ≡ packed w st → (last : Stored) × Updates test s parts last
   run [] st g s e = (s, none)
   run (part ∷ parts) st g s e =
-      let fine : updateOutcome (test s) s part .number ≡ 0 = update-ok (test s) s part (ap test e ∙ passes st g) in
-      let step : updateOutcome (test s) s part .state ≡ packed w (updated (w * 8) st part) =
-      update-accepted (test s) s part fine ∙ at-state (λ x y. packed x (updated (x * 8) y part)) v st e in
-      let rest : (last : Stored) × Updates test (updateOutcome (test s) s part .state) parts last =
-      run parts (updated (w * 8) st part) (good-updated part g) (updateOutcome (test s) s part .state) step in
-      (rest .0, more (updateOutcome (test s) s part) refl fine (rest .1))
+      let o : Outcome = updateOutcome (test s) s part in
+      let fine : o .number ≡ 0 = update-ok (test s) s part (ap test e ∙ passes st g) in
+      let rest = run parts (updated (w * 8) st part) (good-updated part g) (o .state) (update-is (test s) v part o refl fine st e) in
+      (rest .0, more o refl fine (rest .1))
 
   every-cutting : (st : Tagging) → Good w st → (start : Outcome) → start ≡ record { number = 0; state = packed w st }
       → (parts : List (List ℕ)) (tail : List ℕ) (l : ℕ) → l ≤ length tail * 8
@@ -83,7 +81,7 @@ every-cutting-zuc128 key iv a b hk hv =
     (passed (keyTest 16 key ∷ ivTest 16 iv ∷ []) refusedTag (begunTag-128 (load₁₂₈ key iv)) (eq-eqb (length key) 16 a, (eq-eqb (length iv) 16 b, tt)))
 
 -- EIA3's IV is bytes
-iv-bytes : (count bearer direction : ℕ) → Bytes (IV-EIA3 count bearer direction)
+pub iv-bytes : (count bearer direction : ℕ) → Bytes (IV-EIA3 count bearer direction)
 unfolding IV-EIA3
 iv-bytes count bearer direction =
     let c = byte-lt count in

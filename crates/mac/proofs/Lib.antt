@@ -2,6 +2,7 @@ pub mod Accepted
 pub mod Outcomes
 pub mod Runs
 pub mod Theorems
+pub mod Once
 pub mod Tight
 pub mod Counts
 pub mod Called

@@ -22,7 +22,7 @@ use Rattle.mac.specs.Calls.{Closing, Outcome, begunTag-128, begunTag-256
 use Rattle.mac.specs.Runs.{Tagged, Updates, joined, more, none}
 
 -- an accepted update and an accepted closing, told by their definitions
-pub update-accepted : (ok : Bool) (s : Stored) (m : List ℕ) → updateOutcome ok s m .number ≡ 0
+update-accepted : (ok : Bool) (s : Stored) (m : List ℕ) → updateOutcome ok s m .number ≡ 0
     → updateOutcome ok s m .state ≡ packed (s .width) (updated (s .width * 8) (taggingOf s) m)
 unfolding updateOutcome tested
 update-accepted true s m e = refl
@@ -42,19 +42,22 @@ pub at-state : {A : Type 0} (F : ℕ → Tagging → A) {w : ℕ} → Width w �
 unfolding packed
 at-state F {w} v st e = ap (λ (x : Stored). F (x .width) (taggingOf x)) e ∙ ap (F w) (read-back v st)
 
+-- an accepted update of a packed state takes in its message
+pub update-is : (ok : Bool) {w : ℕ} → Width w → {s : Stored} (m : List ℕ) (o : Outcome) → o ≡ updateOutcome ok s m → o .number ≡ 0
+    → (st : Tagging) → s ≡ packed w st → o .state ≡ packed w (updated (w * 8) st m)
+update-is ok {w} v {s} m o told fine st e =
+    ap (λ (x : Outcome). x .state) told
+    ∙ update-accepted ok s m (ap (λ (x : Outcome). x .number) (sym told) ∙ fine)
+    ∙ at-state (λ x y. packed x (updated (x * 8) y m)) v st e
+
 -- any accepted updates take in the joined message
 pub updates-are : {test : Stored → Bool} {w : ℕ} → Width w → {s s′ : Stored} {parts : List (List ℕ)} → Updates test s parts s′
     → (st : Tagging) → s ≡ packed w st → s′ ≡ packed w (updated (w * 8) st (joined parts))
 unfolding joined updated
 updates-are v none st e = e
 updates-are {test} {w} v {s} (more {part = part} {parts = parts} o told ok rest) st e =
-    updates-are v rest (updated (w * 8) st part) step ∙ ap (packed w) (sym (updated-append (w * 8) st part (joined parts)))
-  where
-    step : o .state ≡ packed w (updated (w * 8) st part)
-    step =
-        ap (λ (x : Outcome). x .state) told
-        ∙ update-accepted (test s) s part (ap (λ (x : Outcome). x .number) (sym told) ∙ ok)
-        ∙ at-state (λ x y. packed x (updated (x * 8) y part)) v st e
+    updates-are v rest (updated (w * 8) st part) (update-is (test s) v part o told ok st e)
+    ∙ ap (packed w) (sym (updated-append (w * 8) st part (joined parts)))
 
 -- a closing ends the run of a start and its updates
 pub ended : {Tag : Type 0} (test : Stored → Bool) (finishOutcome : Stored → List ℕ → ℕ → Closing Tag) (numberIn : Tag → ℕ)

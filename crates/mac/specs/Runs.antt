@@ -1,4 +1,4 @@
--- A tag made by accepted calls, as their contracts tell them: a start, updates that cut the message anyhow, and a closing.
+-- A tag made by accepted calls, as their contracts tell them: a start, updates that cut the message anyhow, and a closing; or a one-shot.
 use mathlib.Core.Bool.{Bool}
 use mathlib.Core.List.{List, [], _∷_, _++_}
 use mathlib.Core.Path.{_≡_}
@@ -6,7 +6,7 @@ use Prim.Native.Nat.{ℕ, _+_, _*_}
 use lib.ListN.{length}
 use Rattle.mac_registers.specs.Stored.{tagOf}
 use Rattle.standard.specs.States.{Stored, formed, formed-128}
-use Rattle.mac.specs.Calls.{Closing, Outcome, finishOutcome-128, finishOutcome-256, updateOutcome}
+use Rattle.mac.specs.Calls.{Closing, Once, Outcome, finishOutcome-128, finishOutcome-256, onceOutcome-128, onceOutcome-256, onceOutcome-EIA3, updateOutcome}
 
 -- updates one after the other, each accepted: o is what is told of a call's result, equal to what the contract says
 pub data Updates (test : Stored → Bool) : Stored → List (List ℕ) → Stored → Type 0 where
@@ -41,3 +41,19 @@ Tagged-128 = Tagged formed-128 finishOutcome-128 (λ tag. tag)
 
 abbrev pub Tagged-256 : ℕ → Outcome → List ℕ → ℕ → ℕ → Type 0
 Tagged-256 width = Tagged formed finishOutcome-256 (tagOf width)
+
+-- a tag of a message of l bits made by an accepted one-shot: told is what is told of its result
+pub record Computed {Tag : Type 0} (once : List ℕ → ℕ → Once Tag) (numberIn : Tag → ℕ) (message : List ℕ) (l tag : ℕ) : Type 0 where
+  pub told : Once Tag
+  pub is : told ≡ once message l
+  pub accepted : told .number ≡ 0
+  pub tag-is : tag ≡ numberIn (told .tag)
+
+abbrev pub Computed-128 : (key iv message : List ℕ) (l tag : ℕ) → Type 0
+Computed-128 key iv = Computed (onceOutcome-128 key iv) (λ tag. tag)
+
+abbrev pub Computed-EIA3 : (count bearer direction : ℕ) (key message : List ℕ) (l tag : ℕ) → Type 0
+Computed-EIA3 count bearer direction key = Computed (onceOutcome-EIA3 count bearer direction key) (λ tag. tag)
+
+abbrev pub Computed-256 : (width : ℕ) (key iv message : List ℕ) (l tag : ℕ) → Type 0
+Computed-256 width key iv = Computed (onceOutcome-256 width key iv) (tagOf width)

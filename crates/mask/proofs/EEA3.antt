@@ -14,13 +14,13 @@ use Rattle.standard.specs.Generator.{State, keystream, started, wordAt}
 use Rattle.standard.specs.Loading.{load₁₂₈}
 use Rattle.standard.specs.Refusals.{Test, accepted, bitsTest, stateTest, tested}
 use Rattle.standard.specs.States.{wellFormed}
-use Rattle.standard.proofs.Cells.{cells-wellFormed}
+use Rattle.standard.proofs.Cells.{All, cells-wellFormed}
 use Rattle.standard.proofs.Generator.{sound-started, stream-is}
 use Rattle.standard.proofs.Masking.{obs-clean, obs-crate}
 use Rattle.standard.proofs.Promise.{Says}
 use Rattle.standard.proofs.Tested.{AllPass, accepted-passed, passed}
 use Rattle.zuc.specs.Reading.{stateOf}
-use Rattle.zuc_loading.proofs.Loaded.{AllBytes, Bytes, byte-lt, cells-128, each-byte}
+use Rattle.zuc_loading.proofs.Loaded.{Bytes, byte-lt, cells-128, each-byte}
 use Rattle.keystream.specs.Starts.{StartOutcome, start-EEA3}
 use Rattle.keystream.proofs.Words.{at-rest-eea3}
 use Rattle.mask.specs.Outcome.{Outcome, cleanOutcome, crateOutcome, drawn, maskTested, refused, told}
@@ -81,7 +81,7 @@ module _ (count bearer direction : ℕ) (key : List ℕ) where
   eea3-starts e = rw (eq-eqb (length key) 16 e) refl
 
   -- its IV is bytes
-  half-before : (l : List ℕ) → AllBytes l → AllBytes (halfIV-EEA3 count (bearer % 2 ^ 5) (direction % 2) ++ l)
+  half-before : (l : List ℕ) → All (λ x. x < 2 ^ 8) l → All (λ x. x < 2 ^ 8) (halfIV-EEA3 count (bearer % 2 ^ 5) (direction % 2) ++ l)
   half-before l h =
       (byte-lt count 0, (byte-lt count 1, (byte-lt count 2, (byte-lt count 3, (omega arith, (lit< tt, (lit< tt, (lit< tt, h))))))))
 

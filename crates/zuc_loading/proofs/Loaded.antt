@@ -10,7 +10,7 @@ use native.Mathlib.Omega.{arith}
 use Prim.Native.Nat.{ℕ, zero, suc, _%_, _*_, _+_, _-_, _/_, _<_, _^_, _≤_}
 use Rattle.zuc_loading.proofs.Rows.{D-row, or-some}
 use Rattle.zuc_loading.specs.InnerRows.{Row}
-use Rattle.standard.proofs.Cells.{InRange, all-cells, Cells}
+use Rattle.standard.proofs.Cells.{All, Cells, InRange, all-cells}
 use Rattle.standard.proofs.Linear.{M-lt}
 use Rattle.standard.proofs.Listed.{getD-listed, length-listed}
 use Rattle.standard.proofs.Window.{window-lt}
@@ -22,12 +22,8 @@ infixr 40 _&_
 abbrev pub Bytes : List ℕ → Type 0
 Bytes l = (i : ℕ) → l ⟨ i ⟩ < 2 ^ 8
 
--- the same of a list written out
-abbrev pub AllBytes : List ℕ → Type 0
-AllBytes [] = Unit {0}
-AllBytes (b ∷ l) = (b < 2 ^ 8) × AllBytes l
-
-pub each-byte : (l : List ℕ) → AllBytes l → Bytes l
+-- a list written out
+pub each-byte : (l : List ℕ) → All (λ x. x < 2 ^ 8) l → Bytes l
 each-byte [] h i = lit< tt
 each-byte (b ∷ l) h zero = h .0
 each-byte (b ∷ l) h (suc i) = each-byte l (h .1) i
