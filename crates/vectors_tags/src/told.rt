@@ -12,6 +12,7 @@ use mac::Mac128;
 use mac::Mac256;
 use mac::Once128;
 use mac::Once256;
+use mac::UpdateAnswer;
 use mac_registers::TagState;
 use vectors_parts::bytes_of;
 use vectors_parts::front;
@@ -56,6 +57,13 @@ pub fn of_once256(once: Once256) -> Told {
     }
 }
 
+fn of_update(answer: UpdateAnswer, state: TagState) -> Update {
+    Update {
+        number: update_number(answer),
+        state,
+    }
+}
+
 pub fn updated(rule: Rule, s: TagState, part: &[u8]) -> Update {
     match rule {
         Rule::Zuc128 => {
@@ -63,20 +71,14 @@ pub fn updated(rule: Rule, s: TagState, part: &[u8]) -> Update {
             let answer = update.answer;
             let mac = update.mac;
             let state = mac.state;
-            Update {
-                number: update_number(answer),
-                state,
-            }
+            of_update(answer, state)
         }
         Rule::Zuc256 => {
             let update = mac::zuc256::update(Mac256 { state: s }, part);
             let answer = update.answer;
             let mac = update.mac;
             let state = mac.state;
-            Update {
-                number: update_number(answer),
-                state,
-            }
+            of_update(answer, state)
         }
     }
 }

@@ -82,15 +82,4 @@ returns-4 c = rw (key-refused _ (c .match .keys3) (c .before .before .before .pr
 pub tag-from-spec : {M : Type 1} → statement M
 tag-from-spec =
     tie.close
-    (tie.spec
-    (λ c. search needs)
-    (λ c κs. search needs)
-    returns
-    (λ c κs. search needs)
-    (λ c κs. search needs)
-    begin-128-requires
-    close-128-requires
-    (λ c. search needs)
-    returns-2
-    returns-3
-    returns-4)
+    (tie.spec (λ c. search needs) (λ c κs. search needs) returns (λ c κs. search needs) (λ c κs. search needs) begin-128-requires close-128-requires (λ c. search needs) returns-2 returns-3 returns-4)
