@@ -30,7 +30,7 @@ fn put_start(state: &mut [u32; 18], start: Start) -> u32
     start_number(answer)
 }
 
-// A ZUC-128 generator, or refusal 2 or 3.
+// A ZUC-128 generator, or BAD_KEY, BAD_IV.
 #[no_mangle]
 pub extern "C" fn zuc128_start(state: &mut [u32; 18], key: &[u8], iv: &[u8]) -> u32
     ensures { λ r. ⌜ record { number = r; array = now (state .exit) } ≡ startArray (start₁₂₈ (now (key .entry)) (now (iv .entry))) ⌝ }
@@ -38,7 +38,7 @@ pub extern "C" fn zuc128_start(state: &mut [u32; 18], key: &[u8], iv: &[u8]) -> 
     put_start(state, keystream::zuc128::new(key, iv))
 }
 
-// A ZUC-256 generator, or refusal 2 or 3.
+// A ZUC-256 generator, or BAD_KEY, BAD_IV.
 #[no_mangle]
 pub extern "C" fn zuc256_start(state: &mut [u32; 18], key: &[u8], iv: &[u8]) -> u32
     ensures { λ r. ⌜ record { number = r; array = now (state .exit) } ≡ startArray (start₂₅₆ d-keystream (now (key .entry)) (now (iv .entry))) ⌝ }
@@ -46,7 +46,7 @@ pub extern "C" fn zuc256_start(state: &mut [u32; 18], key: &[u8], iv: &[u8]) -> 
     put_start(state, keystream::zuc256::new(key, iv))
 }
 
-// A generator of the EEA3 keystream, or refusal 2.
+// A generator of the EEA3 keystream, or BAD_KEY.
 #[no_mangle]
 pub extern "C" fn eea3_start(
     state: &mut [u32; 18],
@@ -60,7 +60,7 @@ pub extern "C" fn eea3_start(
     put_start(state, keystream::eea3::new(count, bearer, direction, key))
 }
 
-// The next word, or refusal 4.
+// The next word, or BAD_STATE.
 #[no_mangle]
 pub extern "C" fn zuc_draw(state: &mut [u32; 18], word: &mut u32) -> u32
     ensures { λ r. ⌜ record { number = r; word = now (word .exit); array = now (state .exit) } ≡ drawArray (drawOutcome (stateIn (now (state .entry)))) ⌝ }
@@ -73,7 +73,7 @@ pub extern "C" fn zuc_draw(state: &mut [u32; 18], word: &mut u32) -> u32
     draw_number(answer)
 }
 
-// The next words, as many as are lent, or refusal 4.
+// The next words, as many as are lent, or BAD_STATE.
 #[no_mangle]
 pub extern "C" fn zuc_words(state: &mut [u32; 18], out: &mut [u32]) -> u32
     ensures { λ r. ⌜ record { number = r; array = now (state .exit); buffer = now (out .exit) } ≡ wordsArray (fillOutcome (stateIn (now (state .entry))) (now (out .entry))) ⌝ }
@@ -96,7 +96,7 @@ fn put_mask(masked: Masked, state: &mut [u32; 18], count: &mut usize) -> u32
     mask_number(answer)
 }
 
-// A mask as the crate does it, or refusal 4 or 5.
+// A mask as the crate does it, or BAD_STATE, BAD_BITS.
 #[no_mangle]
 pub extern "C" fn zuc_mask_crate(
     state: &mut [u32; 18],
@@ -110,7 +110,7 @@ pub extern "C" fn zuc_mask_crate(
     put_mask(masked, state, count)
 }
 
-// A mask with every bit past the length zeroed, or refusal 4 or 5.
+// A mask with every bit past the length zeroed, or BAD_STATE, BAD_BITS.
 #[no_mangle]
 pub extern "C" fn zuc_mask_clean(
     state: &mut [u32; 18],

@@ -33,7 +33,7 @@ fn put_start(state: &mut [u64; 19], answer: StartAnswer, s: TagState) -> u32
     start_number(answer)
 }
 
-// A ZUC-128 tag state, or refusal 2 or 3.
+// A ZUC-128 tag state, or BAD_KEY, BAD_IV.
 #[no_mangle]
 pub extern "C" fn zuc128_tag_start(state: &mut [u64; 19], key: &[u8], iv: &[u8]) -> u32
     ensures { λ r. ⌜ record { number = r; array = now (state .exit) } ≡ tagArray (startOutcome-128 (now (key .entry)) (now (iv .entry))) ⌝ }
@@ -45,7 +45,7 @@ pub extern "C" fn zuc128_tag_start(state: &mut [u64; 19], key: &[u8], iv: &[u8])
     put_start(state, answer, s)
 }
 
-// An EIA3 tag state, or refusal 2.
+// An EIA3 tag state, or BAD_KEY.
 #[no_mangle]
 pub extern "C" fn eia3_tag_start(
     state: &mut [u64; 19],
@@ -63,7 +63,7 @@ pub extern "C" fn eia3_tag_start(
     put_start(state, answer, s)
 }
 
-// A ZUC-256 tag state of a width in bytes, or refusal 1, 2 or 3.
+// A ZUC-256 tag state of a width in bytes, or BAD_WIDTH, BAD_KEY, BAD_IV.
 #[no_mangle]
 pub extern "C" fn zuc256_tag_start(
     state: &mut [u64; 19],
@@ -88,7 +88,7 @@ fn put_update(state: &mut [u64; 19], answer: UpdateAnswer, s: TagState) -> u32
     update_number(answer)
 }
 
-// More bytes of a message, of ZUC-128 or EIA3, or refusal 4.
+// More bytes of a message, of ZUC-128 or EIA3, or BAD_STATE.
 #[no_mangle]
 pub extern "C" fn zuc128_tag_update(state: &mut [u64; 19], msg: &[u8]) -> u32
     ensures { λ r. ⌜ record { number = r; array = now (state .exit) } ≡ tagArray (updateOutcome (formed-128 (storedIn (now (state .entry)))) (storedIn (now (state .entry))) (now (msg .entry))) ⌝ }
@@ -101,7 +101,7 @@ pub extern "C" fn zuc128_tag_update(state: &mut [u64; 19], msg: &[u8]) -> u32
     put_update(state, answer, s)
 }
 
-// More bytes of a message, of ZUC-256, or refusal 4.
+// More bytes of a message, of ZUC-256, or BAD_STATE.
 #[no_mangle]
 pub extern "C" fn zuc256_tag_update(state: &mut [u64; 19], msg: &[u8]) -> u32
     ensures { λ r. ⌜ record { number = r; array = now (state .exit) } ≡ tagArray (updateOutcome (formed (storedIn (now (state .entry)))) (storedIn (now (state .entry))) (now (msg .entry))) ⌝ }
@@ -114,7 +114,7 @@ pub extern "C" fn zuc256_tag_update(state: &mut [u64; 19], msg: &[u8]) -> u32
     put_update(state, answer, s)
 }
 
-// The tag of ZUC-128 or EIA3, and a state of zeros, or refusal 4 or 5.
+// The tag of ZUC-128 or EIA3, and a state of zeros, or BAD_STATE, BAD_BITS.
 #[no_mangle]
 pub extern "C" fn zuc128_tag_finish(
     state: &mut [u64; 19],
@@ -134,7 +134,7 @@ pub extern "C" fn zuc128_tag_finish(
     number_128(answer)
 }
 
-// The tag of ZUC-256, and a state of zeros, or refusal 4 or 5.
+// The tag of ZUC-256, and a state of zeros, or BAD_STATE, BAD_BITS.
 #[no_mangle]
 pub extern "C" fn zuc256_tag_finish(
     state: &mut [u64; 19],
@@ -162,7 +162,7 @@ fn put_once_128(answer: Once128, tag: &mut [u64; 2]) -> u32
     once_number_128(answer)
 }
 
-// A ZUC-128 tag at once, or refusal 2, 3 or 5.
+// A ZUC-128 tag at once, or BAD_KEY, BAD_IV, BAD_BITS.
 #[no_mangle]
 pub extern "C" fn zuc128_tag(
     key: &[u8],
@@ -176,7 +176,7 @@ pub extern "C" fn zuc128_tag(
     put_once_128(mac::zuc128::compute(key, iv, msg, bits), tag)
 }
 
-// An EIA3 tag at once, or refusal 2 or 5.
+// An EIA3 tag at once, or BAD_KEY, BAD_BITS.
 #[no_mangle]
 pub extern "C" fn eia3_tag(
     count: u32,
@@ -195,7 +195,7 @@ pub extern "C" fn eia3_tag(
     )
 }
 
-// A ZUC-256 tag at once, or refusal 1, 2, 3 or 5.
+// A ZUC-256 tag at once, or BAD_WIDTH, BAD_KEY, BAD_IV, BAD_BITS.
 #[no_mangle]
 pub extern "C" fn zuc256_tag(
     width: usize,

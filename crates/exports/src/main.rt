@@ -3,9 +3,11 @@
 use vectors_parts::table::foot;
 use vectors_parts::table::head;
 
+mod tags;
+
 fn main() {
     let t = head();
     let t = exports_generators::show(t);
-    let t = exports_tags::show(t);
+    let t = tags::show(t);
     foot(t);
 }

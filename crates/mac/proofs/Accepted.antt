@@ -8,10 +8,10 @@ use lib.Dec.{eqb, lit<}
 use Rattle.standard.specs.Generator.{State}
 use Rattle.standard.specs.Loading.{d-tag₁₂₈, d-tag₃₂, d-tag₆₄, load₁₂₈, load₂₅₆, rowOf}
 use Rattle.standard.specs.Notation.{if_then_else_}
-use Rattle.standard.specs.Refusals.{Test, ivTest, keyTest, tested, widthTest}
+use Rattle.standard.specs.Refusals.{Test, badIV, badKey, badWidth, ivTest, keyTest, tested, widthTest}
 use Rattle.standard.proofs.Cells.{Cells}
 use Rattle.standard.proofs.Generator.{sound-started}
-use Rattle.standard.proofs.Tested.{AllPass, Numbered, accepted-is, accepted-passed}
+use Rattle.standard.proofs.Tested.{Numbered, accepted-is, accepted-passed}
 use Rattle.keystream.specs.Starts.{StartOutcome, acceptedStart, refusedStart, startTag₂₅₆, start₁₂₈}
 use Rattle.zuc_loading.specs.InnerRows.{Row}
 use Rattle.zuc_loading.proofs.Loaded.{Bytes, cells-128, cells-256}
@@ -55,11 +55,11 @@ module _ (w : ℕ) (k iv : List ℕ) where
       .0)
 
 -- ZUC-128 and EIA3 are never refused for a width
-pub no-width-128 : (k iv : List ℕ) → start₁₂₈ k iv .number ≡ 1 → ⊥
+pub no-width-128 : (k iv : List ℕ) → start₁₂₈ k iv .number ≡ badWidth → ⊥
 unfolding start₁₂₈ tested
 no-width-128 k iv = by (keyTest 16 k .passes) (ivTest 16 iv .passes)
   where
-    by : (a b : Bool) → (if a then (if b then acceptedStart (load₁₂₈ k iv) else refusedStart 3) else refusedStart 2) .number ≡ 1 → ⊥
+    by : (a b : Bool) → (if a then (if b then acceptedStart (load₁₂₈ k iv) else refusedStart badIV) else refusedStart badKey) .number ≡ badWidth → ⊥
     by true true e = omega arith
     by true false e = omega arith
     by false b e = omega arith

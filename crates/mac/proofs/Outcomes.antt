@@ -8,11 +8,11 @@ use native.Mathlib.Omega.{arith}
 use lib.Dec.{eqb, leb}
 use lib.ListN.{length}
 use borrow.Author.Tests.{eqb-true, leb-true, ne-eqb}
-use Rattle.standard.specs.Generator.{State, keystream, started, wordAt}
+use Rattle.standard.specs.Generator.{State, keystream, started}
 use Rattle.standard.specs.Integrity.{IV-EIA3, tag-EIA3, tag-ZUC256}
 use Rattle.standard.specs.Loading.{load₁₂₈, load₂₅₆, rowOf}
 use Rattle.standard.specs.Notation.{_⟨_⟩}
-use Rattle.standard.specs.Refusals.{badBits, badKey, badState, bitsTest, ivTest, keyTest, tested, widthTest}
+use Rattle.standard.specs.Refusals.{badBits, badKey, badState, badWidth, bitsTest, ivTest, keyTest, tested, widthTest}
 use Rattle.standard.specs.States.{Stored, formed, formed-128, zeroStored}
 use Rattle.standard.proofs.Generator.{stream-is}
 use Rattle.standard.proofs.Table.{and-right}
@@ -57,7 +57,7 @@ module _ (o : StartOutcome) (r : Stored) where
       rw (e, k .1, ne-eqb (suc (k .0)) 0 (λ q. omega arith)) (ap (λ (x : Stored). record { number = suc (k .0); state = x }) f)
 
 -- an answer of ZUC-128 or EIA3 that is neither `Started` nor `BadIv`
-pub key-refused : (a : StartAnswer) → OneOf (1 ∷ 2 ∷ []) (tagOf the-type a) → (startNumber a ≡ 1 → ⊥) → startNumber a ≡ badKey
+pub key-refused : (a : StartAnswer) → OneOf (1 ∷ 2 ∷ []) (tagOf the-type a) → (startNumber a ≡ badWidth → ⊥) → startNumber a ≡ badKey
 key-refused Started h w = absurd (⊎-elim (λ (e : 0 ≡ 1). omega arith) (λ (e : 0 ≡ 2). omega arith) h)
 key-refused BadWidth h w = absurd (w refl)
 key-refused BadKey h w = refl

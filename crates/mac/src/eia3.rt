@@ -38,7 +38,7 @@ fn iv(count: u32, bearer: u8, direction: u8) -> [u8; 16]
     ]
 }
 
-// A tag state, or refusal 2 for a key that is not 16 bytes.
+// A tag state, or BadKey for a key that is not 16 bytes.
 pub fn new(count: u32, bearer: u8, direction: u8, key: &[u8]) -> Start128
     ensures { λ r. ⌜ startTold-128 r ≡ startOutcome-EIA3 count bearer direction (now (key .entry)) ⌝ }
 {
@@ -46,7 +46,7 @@ pub fn new(count: u32, bearer: u8, direction: u8, key: &[u8]) -> Start128
     begin_from(keystream::zuc128::new(key, &v))
 }
 
-// A whole message at once: refusal 2 or 5, lowest first.
+// A whole message at once, or BadKey, BadBits, in this order.
 pub fn compute(
     count: u32,
     bearer: u8,

@@ -4,6 +4,7 @@ ghost use mathlib.Core.Path.{_≡_};
 ghost use Rattle.keystream.specs.Starts.{startTold};
 ghost use Rattle.mac.specs.Calls.{onceTold-128, startTold-128, updateOutcome, updateTold};
 ghost use Rattle.mac.specs.Inner.{Ready, begun-128, once-from-128};
+ghost use Rattle.standard.specs.Refusals.{badWidth};
 ghost use Rattle.standard.specs.States.{formed-128, zeroStored};
 ghost use Rattle.mac_registers.specs.Inner.{Held};
 ghost use Rattle.mac_registers.specs.Stored.{storedOf};
@@ -22,7 +23,7 @@ pub mod eia3;
 pub mod zuc128;
 pub mod zuc256;
 
-// The state of a ZUC-128 or EIA3 tag, and that of a ZUC-256 tag: two types, so that neither can be closed by the other's rule.
+// The state of a ZUC-128 or EIA3 tag, and that of a ZUC-256 tag: two types, so that neither is closed by the other's rule unawares.
 pub struct Mac128 {
     pub state: TagState,
 }
@@ -42,7 +43,7 @@ pub struct Start256 {
     pub mac: Mac256,
 }
 
-// An update's answer: 0, or refusal 4. Beside it the state after it, the caller's where it was refused.
+// An update's answer: done, or why it was refused. Beside it the state after it, the caller's where it was refused.
 pub enum UpdateAnswer {
     Done,
     BadState,
@@ -63,7 +64,7 @@ pub struct Update256 {
     pub mac: Mac256,
 }
 
-// A closing's answer: the tag, or refusal 4 or 5. Beside it a state of zeros, the caller's where it was refused.
+// A closing's answer: the tag, or why it was refused. Beside it a state of zeros, the caller's where it was refused.
 pub enum Tag128 {
     Tag(u32),
     BadState,
@@ -87,7 +88,7 @@ pub struct Finish256 {
     pub mac: Mac256,
 }
 
-// A one-shot's answer: the tag, or refusal 2, 3 or 5, and for ZUC-256 also 1.
+// A one-shot's answer: the tag, or why it was refused.
 pub enum Once128 {
     Tag(u32),
     BadKey,
@@ -170,7 +171,7 @@ fn begin_from(start: Start) -> Start128
 
 // A tag at once from a start of the keystream, of ZUC-128 or of EIA3: neither is ever refused for a width.
 fn tag_from(start: Start, message: &[u8], l: usize) -> Once128
-    requires { ⌜ Ready (startTold start) ⌝ ∗ ⌜ (startTold start .number ≡ 1 → ⊥) ⌝ }
+    requires { ⌜ Ready (startTold start) ⌝ ∗ ⌜ (startTold start .number ≡ badWidth → ⊥) ⌝ }
     ensures { λ r. ⌜ onceTold-128 r ≡ once-from-128 (startTold start) (now (message .entry)) l ⌝ }
 {
     let answer = start.answer;

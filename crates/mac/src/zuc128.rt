@@ -19,14 +19,14 @@ use words::bits_fit;
 use zuc::boxes::s0;
 use zuc::boxes::s1;
 
-// A tag state, or refusal 2 for a key and 3 for an IV that is not 16 bytes.
+// A tag state, or a refusal: BadKey for a key, BadIv for an IV that is not 16 bytes.
 pub fn new(key: &[u8], iv: &[u8]) -> Start128
     ensures { λ r. ⌜ startTold-128 r ≡ startOutcome-128 (now (key .entry)) (now (iv .entry)) ⌝ }
 {
     begin_from(keystream::zuc128::new(key, iv))
 }
 
-// The state after more bytes of the message, or refusal 4.
+// The state after more bytes of the message, or BadState.
 pub fn update(mac: Mac128, message: &[u8]) -> Update128
     ensures { λ r. ⌜ updateTold-128 r ≡ updateOutcome (formed-128 (storedOf (mac .state))) (storedOf (mac .state)) (now (message .entry)) ⌝ }
 {
@@ -41,7 +41,7 @@ pub fn update(mac: Mac128, message: &[u8]) -> Update128
     }
 }
 
-// The tag, of l bits more; or refusal 4, or 5 for more bits than are lent, before anything moves.
+// The tag, of l bits more; or BadState, or BadBits for more bits than are lent, before anything moves.
 pub fn finish(mac: Mac128, tail: &[u8], l: usize) -> Finish128
     ensures { λ r. ⌜ finishTold-128 r ≡ finishOutcome-128 (storedOf (mac .state)) (now (tail .entry)) l ⌝ }
 {
@@ -68,7 +68,7 @@ pub fn finish(mac: Mac128, tail: &[u8], l: usize) -> Finish128
     }
 }
 
-// A whole message at once: refusal 2, 3 or 5, lowest first.
+// A whole message at once, or BadKey, BadIv, BadBits, in this order.
 pub fn compute(key: &[u8], iv: &[u8], message: &[u8], l: usize) -> Once128
     ensures { λ r. ⌜ onceTold-128 r ≡ onceOutcome-128 (now (key .entry)) (now (iv .entry)) (now (message .entry)) l ⌝ }
 {

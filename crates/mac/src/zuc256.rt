@@ -29,8 +29,8 @@ fn refused(answer: StartAnswer) -> Start256
     }
 }
 
-// A tag state of a width in bytes, or refusal 1 for a width that is not 4, 8 or 16, 2 for a key that is not 32 bytes, 3 for an IV
-// that is not 23.
+// A tag state of a width in bytes, or a refusal: BadWidth for a width that is not 4, 8 or 16, BadKey for a key that is not 32
+// bytes, BadIv for an IV that is not 23.
 pub fn new(width: usize, key: &[u8], iv: &[u8]) -> Start256
     ensures { λ r. ⌜ startTold-256 r ≡ startOutcome-256 width (now (key .entry)) (now (iv .entry)) ⌝ }
 {
@@ -51,7 +51,7 @@ pub fn new(width: usize, key: &[u8], iv: &[u8]) -> Start256
     }
 }
 
-// The state after more bytes of the message, or refusal 4.
+// The state after more bytes of the message, or BadState.
 pub fn update(mac: Mac256, message: &[u8]) -> Update256
     ensures { λ r. ⌜ updateTold-256 r ≡ updateOutcome (formed (storedOf (mac .state))) (storedOf (mac .state)) (now (message .entry)) ⌝ }
 {
@@ -66,7 +66,7 @@ pub fn update(mac: Mac256, message: &[u8]) -> Update256
     }
 }
 
-// The tag, of l bits more; or refusal 4, or 5 for more bits than are lent, before anything moves.
+// The tag, of l bits more; or BadState, or BadBits for more bits than are lent, before anything moves.
 pub fn finish(mac: Mac256, tail: &[u8], l: usize) -> Finish256
     ensures { λ r. ⌜ finishTold-256 r ≡ finishOutcome-256 (storedOf (mac .state)) (now (tail .entry)) l ⌝ }
 {
@@ -93,7 +93,7 @@ pub fn finish(mac: Mac256, tail: &[u8], l: usize) -> Finish256
     }
 }
 
-// A whole message at once: refusal 1, 2, 3 or 5, lowest first.
+// A whole message at once, or BadWidth, BadKey, BadIv, BadBits, in this order.
 pub fn compute(width: usize, key: &[u8], iv: &[u8], message: &[u8], l: usize) -> Once256
     ensures { λ r. ⌜ onceTold-256 r ≡ onceOutcome-256 width (now (key .entry)) (now (iv .entry)) (now (message .entry)) l ⌝ }
 {

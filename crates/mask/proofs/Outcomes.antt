@@ -7,7 +7,7 @@ use lib.Dec.{leb}
 use lib.ListN.{length}
 use Rattle.standard.specs.Confidentiality.{maskClean, wordsToMask}
 use Rattle.standard.specs.Refusals.{badBits, badState, tested}
-use Rattle.standard.specs.Generator.{State, wordAt}
+use Rattle.standard.specs.Generator.{State, after, wordAt}
 use Rattle.standard.specs.States.{wellFormed}
 use Rattle.standard.proofs.Kept.{crateEnd}
 use Rattle.standard.proofs.Masking.{crate-clean}
@@ -23,9 +23,12 @@ module _ (σ : State) (L : ℕ) (buffer : List ℕ) where
   unfolding maskTested tested
   bad-bits o w l = rw (w, l) refl
 
-  pub accepted : (o : Outcome) {told : Outcome} → wellFormed (σ .cells) ≡ true → leb L (length buffer * 8) ≡ true → told ≡ o → told ≡ maskTested σ L buffer o
+  -- part by part, so that each is held by a fact of its own
+  pub accepted : (count : ℕ) (masked : List ℕ) {n : ℕ} {τ : State} {out : List ℕ} → wellFormed (σ .cells) ≡ true → leb L (length buffer * 8) ≡ true
+      → n ≡ count → τ ≡ after count σ → out ≡ masked
+      → record { number = 0; count = n; state = τ; buffer = out } ≡ maskTested σ L buffer (drawn count σ masked)
   unfolding maskTested tested
-  accepted o w l e = rw (w, l) e
+  accepted count masked w l en es eb = rw (w, l) (λ i. record { number = 0; count = en i; state = es i; buffer = eb i })
 
   pub clean-mode : (end : ℕ) → end ≡ L → outcomeTo end σ L buffer ≡ cleanOutcome σ L buffer
   clean-mode end e = ap (λ (x : ℕ). outcomeTo x σ L buffer) e

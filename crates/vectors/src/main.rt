@@ -2,9 +2,11 @@
 use vectors_parts::table::foot;
 use vectors_parts::table::head;
 
+mod tags;
+
 fn main() {
     let t = head();
     let t = vectors_streams::show(t);
-    let t = vectors_tags::show(t);
+    let t = tags::show(t);
     foot(t);
 }

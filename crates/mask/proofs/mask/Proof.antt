@@ -1,12 +1,10 @@
 -- `mask`: the two tests decide the outcome; past them every byte is masked, then cleared, which is the mode's mask.
-use mathlib.Core.Path.{_≡_, sym, ap, _∙_}
+use mathlib.Core.Path.{sym, ap, _∙_}
 use Prim.Native.Nat.{_*_, _/_, _+_}
-use denote.Ref.{now}
 use native.Mathlib.Omega.{arith}
-use lib.ListN.{length}
 use borrow.Author.Needs.{needs}
 use borrow.Author.Tests.{not-true, not-false}
-use Rattle.standard.specs.Confidentiality.{maskedBuffer, wordsToMask}
+use Rattle.standard.specs.Confidentiality.{maskedBuffer}
 use Rattle.standard.specs.Notation.{eachFrom}
 use Rattle.standard.proofs.Cells.{wellFormed-cells}
 use Rattle.standard.proofs.Each.{each-each}
@@ -36,15 +34,9 @@ returns-3 c =
     let m = c .before .before .before .before .before .before in
     let t = m .before .before .before .before .before .before in
     let a = t .before .before .before .before .before .args in
-    let counted : length (now (a .buf)) / 4 + 1 ≡ wordsToMask (length (now (a .buf))) = omega arith in
-    accepted _ _ _ _ (sym (t .before .before .before .is-well-formed .ensures) ∙ not-false _ (t .before .before .if1 .left))
-    (sym (t .before .bits-fit .ensures) ∙ not-false _ (t .if2 .left))
-    (λ i. record {
-      number = 0;
-      count = counted i;
-      state = m .mask-all .ensures .0 i;
-      buffer = (c .before .before .keep-bits .ensures ∙ ap (eachFrom (cleared (a .bits / 8 * 8 + a .kept)) 0) (m .mask-all .ensures .1) ∙ each-each _ _ 0 _) i;
-    })
+    accepted _ _ _ _ _ (sym (t .before .before .before .is-well-formed .ensures) ∙ not-false _ (t .before .before .if1 .left))
+    (sym (t .before .bits-fit .ensures) ∙ not-false _ (t .if2 .left)) (omega arith) (m .mask-all .ensures .0)
+    (c .before .before .keep-bits .ensures ∙ ap (eachFrom (cleared (a .bits / 8 * 8 + a .kept)) 0) (m .mask-all .ensures .1) ∙ each-each _ _ 0 _)
 
 pub mask-spec : {M : Type 1} → statement M
 mask-spec =

@@ -1,6 +1,6 @@
 -- `mac::zuc256::finish` meets its contract: refused before anything moves, or closed, and a state of zeros.
 use mathlib.Core.Bool.{true}
-use mathlib.Core.Path.{_≡_, sym, refl, _∙_}
+use mathlib.Core.Path.{_≡_, sym, _∙_}
 use Prim.Native.Nat.{_*_}
 use lib.Dec.{leb}
 use lib.ListN.{length}

@@ -149,7 +149,7 @@ fn zuc256(t: Tally, name: &[u8], width: usize, tag: [u64; 2]) -> Tally {
     closing(t, true, on, part(&msg, 40, 460), 3680, tag)
 }
 
-// ZUC-128's calls refuse a width of 8 or 16, and both refuse one of 5.
+// ZUC-128's calls refuse a width of 8 or 16.
 fn other_width(t: Tally, name: &[u8], width: usize) -> Tally {
     let msg = [0x11u8; 5];
     let mut state = [0u64; 19];
@@ -157,13 +157,41 @@ fn other_width(t: Tally, name: &[u8], width: usize) -> Tally {
     refused(t, false, name, state, &msg)
 }
 
-fn width_5(t: Tally) -> Tally {
+// A started state with one number of its array altered, so that it is malformed: the key pair stands at 9..12, the tag at 13 and 14, the
+// waiting bytes at 15 and 16, their count at 17, the width at 18.
+fn spoilt(t: Tally, wide: bool, name: &[u8], width: usize, at: usize, number: u64) -> Tally {
     let msg = [0x11u8; 5];
     let mut state = [0u64; 19];
-    begin(4, &mut state);
-    state[18] = 5;
-    let t = refused(t, false, b"zuc128_tag_update, width 5", state, &msg);
-    refused(t, true, b"zuc256_tag_update, width 5", state, &msg)
+    begin(width, &mut state);
+    if at < 19 {
+        state[at] = number;
+    }
+    refused(t, wide, name, state, &msg)
+}
+
+// Of 4 bytes, by both kinds of calls.
+fn spoilt_both(t: Tally, name: &[u8], at: usize, number: u64) -> Tally {
+    let t = spoilt(t, false, name, 4, at, number);
+    spoilt(t, true, b"  by zuc256_tag_update", 4, at, number)
+}
+
+fn spoilt_4(t: Tally) -> Tally {
+    let t = spoilt_both(t, b"width 4 made 5", 18, 5);
+    let t = spoilt_both(t, b"cells s0 and s1 = 0", 0, 0);
+    let t = spoilt_both(t, b"width 4, key[1] = 1", 10, 1);
+    let t = spoilt_both(t, b"width 4, key[3] = 1", 12, 1);
+    let t = spoilt_both(t, b"width 4, tag[0] = 2^32", 13, 0x1_0000_0000);
+    let t = spoilt_both(t, b"width 4, tag[1] = 1", 14, 1);
+    let t = spoilt_both(t, b"waiting byte 0, count 0", 15, 0x0100_0000_0000_0000);
+    let t = spoilt_both(t, b"waiting byte 15, count 0", 16, 1);
+    spoilt_both(t, b"width 4, count 4", 17, 4)
+}
+
+fn spoilt_wide(t: Tally) -> Tally {
+    let t = spoilt(t, true, b"width 8, key[2] = 1", 8, 11, 1);
+    let t = spoilt(t, true, b"width 8, tag[1] = 1", 8, 14, 1);
+    let t = spoilt(t, true, b"width 8, count 8", 8, 17, 8);
+    spoilt(t, true, b"width 16, count 16", 16, 17, 16)
 }
 
 pub fn show(t: Tally) -> Tally {
@@ -178,5 +206,6 @@ pub fn show(t: Tally) -> Tally {
     );
     let t = other_width(t, b"zuc128_tag_update, width 8", 8);
     let t = other_width(t, b"zuc128_tag_update, width 16", 16);
-    width_5(t)
+    let t = spoilt_4(t);
+    spoilt_wide(t)
 }

@@ -2,8 +2,8 @@
 use lib.ListN.{length}
 use Prim.Native.Nat.{_-_, _/_, _≤_}
 use borrow.Author.Needs.{needs}
-use Rattle.vectors_tags.proofs.published.cut.Statement.{statement}
-use Rattle.vectors_tags.proofs.published.cut.Tie as tie
+use Rattle.vectors.proofs.tags.published.cut.Statement.{statement}
+use Rattle.vectors.proofs.tags.published.cut.Tie as tie
 
 abbrev Inv-loop : tie.InvT-loop
 Inv-loop rule message bits less s₀ whole i₀ s i = (i ≤ whole) × (whole ≤ bits / 8) × (whole ≤ length message)
