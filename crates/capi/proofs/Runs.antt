@@ -117,31 +117,33 @@ module _ {Tag : Type 0} {test : Stored → Bool} {finishOutcome : Stored → Lis
       back : storedIn (start .array) ≡ begun .state
       back = ap (λ (x : TagArray). storedIn (x .array)) told ∙ read (held fine)
 
-  pub outside : {message : List ℕ} {L tag : ℕ} → Bytes message → Tagged test inner innerNumber begun message L tag
-      → ArrayTagged test finishOutcome numberIn (tagArray begun) message L tag
-  outside b r =
-      record {
-        parts = r .parts;
-        tail = r .tail;
-        l = r .l;
-        bytes = b;
-        message-is = r .message-is;
-        L-is = r .L-is;
-        started = r .started;
-        last = tagArrayOf (r .last);
-        updates = outer-updates (r .updates) bytes (held (r .started));
-        end = closingArray (finishOutcome (storedIn (tagArrayOf (r .last))) (r .tail) (r .l));
-        closes = refl;
-        accepted =
-            ap (λ (x : Stored). finishOutcome x (r .tail) (r .l) .number) back
-            ∙ numbers (r .last) (r .tail) (r .l)
-            ∙ ap (λ (x : Closing Tag). x .number) (sym (r .closes))
-            ∙ r .accepted;
-        tag-is =
-            r .tag-is
-            ∙ ap (λ (x : Closing Tag). innerNumber (x .tag)) (r .closes)
-            ∙ sym (ap (λ (x : Stored). numberIn (finishOutcome x (r .tail) (r .l) .tag)) back ∙ tags (r .last) (r .tail) (r .l));
-      }
+  pub outside : {message : List ℕ} {L tag : ℕ} → Bytes message → (r : Tagged test inner innerNumber begun message L tag)
+      → (a : ArrayTagged test finishOutcome numberIn (tagArray begun) message L tag) × ((a .parts ≡ r .parts) × (a .tail ≡ r .tail) × (a .l ≡ r .l))
+  outside b r = (
+    record {
+      parts = r .parts;
+      tail = r .tail;
+      l = r .l;
+      bytes = b;
+      message-is = r .message-is;
+      L-is = r .L-is;
+      started = r .started;
+      last = tagArrayOf (r .last);
+      updates = outer-updates (r .updates) bytes (held (r .started));
+      end = closingArray (finishOutcome (storedIn (tagArrayOf (r .last))) (r .tail) (r .l));
+      closes = refl;
+      accepted =
+          ap (λ (x : Stored). finishOutcome x (r .tail) (r .l) .number) back
+          ∙ numbers (r .last) (r .tail) (r .l)
+          ∙ ap (λ (x : Closing Tag). x .number) (sym (r .closes))
+          ∙ r .accepted;
+      tag-is =
+          r .tag-is
+          ∙ ap (λ (x : Closing Tag). innerNumber (x .tag)) (r .closes)
+          ∙ sym (ap (λ (x : Stored). numberIn (finishOutcome x (r .tail) (r .l) .tag)) back ∙ tags (r .last) (r .tail) (r .l));
+    },
+    (refl, refl, refl),
+  )
     where
       bytes : Bytes (joined (r .parts))
       bytes = joined-bytes (r .parts) (r .tail) (r .message-is) b

@@ -49,8 +49,9 @@ module _ (key iv : List ℕ) (hk : Bytes key) (hv : Bytes iv) where
         packs = start-128 key iv begun-128 refl e;
       }
 
-  -- what the inner calls accept, the C calls accept, and give the same tag
-  pub accepted-c-zuc128 : {m : List ℕ} {L t : ℕ} → Bytes m → Tagged-128 begun-128 m L t → ArrayTagged-128 (tagArray begun-128) m L t
+  -- what the inner calls accept, the C calls accept, cut alike, and give the same tag
+  pub accepted-c-zuc128 : {m : List ℕ} {L t : ℕ} → Bytes m → (r : Tagged-128 begun-128 m L t)
+      → (a : ArrayTagged-128 (tagArray begun-128) m L t) × ((a .parts ≡ r .parts) × (a .tail ≡ r .tail) × (a .l ≡ r .l))
   accepted-c-zuc128 = outside (λ s tail l. refl) (λ s tail l. refl) begun-128 held-128
 
   module _ (start : TagArray) (told : start ≡ tagArray begun-128) where
@@ -92,10 +93,13 @@ module _ (count bearer direction : ℕ) (key : List ℕ) (hk : Bytes key) where
   abbrev words-EIA3 : ℕ → ℕ
   words-EIA3 = keystream (load₁₂₈ key iv-EIA3)
 
-  pub accepted-c-eia3 : {m : List ℕ} {L t : ℕ} → Bytes m → Tagged-128 (startOutcome-EIA3 count bearer direction key) m L t
-      → ArrayTagged-128 (tagArray (startOutcome-EIA3 count bearer direction key)) m L t
+  pub accepted-c-eia3 : {m : List ℕ} {L t : ℕ} → Bytes m → (r : Tagged-128 (startOutcome-EIA3 count bearer direction key) m L t)
+      → (a : ArrayTagged-128 (tagArray (startOutcome-EIA3 count bearer direction key)) m L t)
+      × ((a .parts ≡ r .parts) × (a .tail ≡ r .tail) × (a .l ≡ r .l))
   accepted-c-eia3 {m} {L} {t} b =
-      subst (λ (o : Outcome). Tagged-128 o m L t → ArrayTagged-128 (tagArray o) m L t) (begun-EIA3-is count bearer direction key)
+      subst
+      (λ (o : Outcome). (r : Tagged-128 o m L t) → (a : ArrayTagged-128 (tagArray o) m L t) × ((a .parts ≡ r .parts) × (a .tail ≡ r .tail) × (a .l ≡ r .l)))
+      (begun-EIA3-is count bearer direction key)
       (accepted-c-zuc128 key iv-EIA3 hk (iv-bytes count bearer direction) b)
 
   module _ (start : TagArray) (told : start ≡ tagArray (startOutcome-EIA3 count bearer direction key)) where
@@ -148,7 +152,8 @@ module _ (w : ℕ) (key iv : List ℕ) (hk : Bytes key) (hv : Bytes iv) where
         packs = is .1;
       }
 
-  pub accepted-c-zuc256 : {m : List ℕ} {L t : ℕ} → Bytes m → Tagged-256 w begun-256 m L t → ArrayTagged-256 w (tagArray begun-256) m L t
+  pub accepted-c-zuc256 : {m : List ℕ} {L t : ℕ} → Bytes m → (r : Tagged-256 w begun-256 m L t)
+      → (a : ArrayTagged-256 w (tagArray begun-256) m L t) × ((a .parts ≡ r .parts) × (a .tail ≡ r .tail) × (a .l ≡ r .l))
   accepted-c-zuc256 = outside (λ s tail l. refl) (λ s tail l. refl) begun-256 held-256
 
   module _ (start : TagArray) (told : start ≡ tagArray begun-256) where

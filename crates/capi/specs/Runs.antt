@@ -48,6 +48,18 @@ ArrayTagged-128 = ArrayTagged formed-128 (λ s tail l. twoClosing (finishOutcome
 abbrev pub ArrayTagged-256 : ℕ → TagArray → List ℕ → ℕ → ℕ → Type 0
 ArrayTagged-256 width = ArrayTagged formed finishOutcome-256 (tagOf width)
 
+-- that a start's calls are accepted over these very parts, this tail and these bits of it, and give some tag
+abbrev pub ArrayAccepts : (Stored → Bool) → (Stored → List ℕ → ℕ → Closing (List ℕ)) → (List ℕ → ℕ) → TagArray → List (List ℕ) → List ℕ → ℕ → Type 0
+ArrayAccepts test finishOutcome numberIn start parts tail l =
+    (tag : ℕ) × (r : ArrayTagged test finishOutcome numberIn start (joined parts ++ tail) (length (joined parts) * 8 + l) tag)
+    × ((r .parts ≡ parts) × (r .tail ≡ tail) × (r .l ≡ l))
+
+abbrev pub ArrayAccepts-128 : TagArray → List (List ℕ) → List ℕ → ℕ → Type 0
+ArrayAccepts-128 = ArrayAccepts formed-128 (λ s tail l. twoClosing (finishOutcome-128 s tail l)) firstWord
+
+abbrev pub ArrayAccepts-256 : ℕ → TagArray → List (List ℕ) → List ℕ → ℕ → Type 0
+ArrayAccepts-256 width = ArrayAccepts formed finishOutcome-256 (tagOf width)
+
 -- a tag made by an accepted C one-shot: of ZUC-128, and of EIA3. The one of ZUC-256 promises what mac's does, and so is Computed-256
 abbrev pub TwoComputed-128 : (key iv message : List ℕ) (l tag : ℕ) → Type 0
 TwoComputed-128 key iv = Computed (λ message l. twoOnce (onceOutcome-128 key iv message l)) firstWord

@@ -1,10 +1,10 @@
 -- The theorems about runs of calls are not empty: for bytes cut anyhow into parts and a tail, with l at most 8 times the tail, every update and
 -- the closing are accepted. Once over the width, by states that stay good; then for each start.
 use mathlib.Core.Bool.{Bool, true}
-use mathlib.Core.List.{List, [], _∷_, _++_}
+use mathlib.Core.List.{List, [], _∷_}
 use mathlib.Core.Logic.{inl}
 use mathlib.Core.Path.{_≡_, refl, ap, _∙_}
-use Prim.Native.Nat.{ℕ, _+_, _*_, _%_, _^_, _≤_}
+use Prim.Native.Nat.{ℕ, _*_, _%_, _^_, _≤_}
 use native.Mathlib.Omega.{arith}
 use lib.Bits.{xor-lt}
 use lib.Dec.{lit<}
@@ -25,7 +25,7 @@ use Rattle.mac_registers.specs.Stored.{packed, tagOf}
 use Rattle.mac_registers.specs.Tagging.{Tagging, begun-EIA3, begun-ZUC256, updated}
 use Rattle.mac_registers.proofs.Packed.{and-both, good-EIA3, good-ZUC256, good-updated, is-width, well-formed}
 use Rattle.mac.specs.Calls.{Closing, Outcome, begunTag-128, begunTag-256, closing, finishOutcome-128, finishOutcome-256, refusedTag, startOutcome-128, startOutcome-256, startOutcome-EIA3, updateOutcome}
-use Rattle.mac.specs.Runs.{Tagged, Tagged-128, Tagged-256, Updates, joined, more, none}
+use Rattle.mac.specs.Runs.{Accepts, Accepts-128, Accepts-256, Updates, joined, more, none}
 use Rattle.mac.proofs.Accepted.{row-of}
 use Rattle.mac.proofs.Runs.{ended, update-is, updates-are}
 
@@ -47,7 +47,7 @@ module _ {Tag : Type 0} (test : Stored → Bool) (finishOutcome : Stored → Lis
 
   every-cutting : (st : Tagging) → Good w st → (start : Outcome) → start ≡ record { number = 0; state = packed w st }
       → (parts : List (List ℕ)) (tail : List ℕ) (l : ℕ) → l ≤ length tail * 8
-      → (tag : ℕ) × Tagged test finishOutcome numberIn start (joined parts ++ tail) (length (joined parts) * 8 + l) tag
+      → Accepts test finishOutcome numberIn start parts tail l
   every-cutting st good start begun parts tail l h =
       let e : start .state ≡ packed w st = ap (λ (x : Outcome). x .state) begun in
       let r : (last : Stored) × Updates test (start .state) parts last = run parts st good (start .state) e in
@@ -55,6 +55,7 @@ module _ {Tag : Type 0} (test : Stored → Bool) (finishOutcome : Stored → Lis
         numberIn (finishOutcome (r .0) tail l .tag),
         ended test finishOutcome numberIn parts start (ap (λ (x : Outcome). x .number) begun) (r .0) (r .1) tail l (finishOutcome (r .0) tail l) refl
             (closes (r .0) tail l (ap test at ∙ passes (updated (w * 8) st (joined parts)) (good-updated (joined parts) good)) h),
+        (refl, refl, refl),
       )
 
 closing-ok : {Tag : Type 0} (empty : Tag) (ok : Bool) (s : Stored) (tail : List ℕ) (l : ℕ) (tag : Tag) → ok ≡ true → l ≤ length tail * 8
@@ -66,7 +67,7 @@ closing-ok {Tag} empty ok s tail l tag e h =
 -- ZUC-128 and EIA3, over what was loaded
 cutting-128 : (loaded : State) → Cells (loaded .cells) → (start : Outcome) → start ≡ begunTag-128 loaded
     → (parts : List (List ℕ)) (tail : List ℕ) (l : ℕ) → l ≤ length tail * 8
-    → (tag : ℕ) × Tagged-128 start (joined parts ++ tail) (length (joined parts) * 8 + l) tag
+    → Accepts-128 start parts tail l
 unfolding finishOutcome-128 formed-128 packed
 cutting-128 loaded c =
     every-cutting formed-128 finishOutcome-128 (λ tag. tag) (inl refl) (λ st g. and-both (well-formed g) refl)
@@ -74,7 +75,7 @@ cutting-128 loaded c =
 
 pub every-cutting-zuc128 : (key iv : List ℕ) → length key ≡ 16 → length iv ≡ 16 → Bytes key → Bytes iv
     → (parts : List (List ℕ)) (tail : List ℕ) (l : ℕ) → l ≤ length tail * 8
-    → (tag : ℕ) × Tagged-128 (startOutcome-128 key iv) (joined parts ++ tail) (length (joined parts) * 8 + l) tag
+    → Accepts-128 (startOutcome-128 key iv) parts tail l
 unfolding startOutcome-128
 every-cutting-zuc128 key iv a b hk hv =
     cutting-128 (load₁₂₈ key iv) (cells-128 key iv hk hv) _
@@ -113,7 +114,7 @@ iv-bytes count bearer direction =
 
 pub every-cutting-eia3 : (count bearer direction : ℕ) (key : List ℕ) → length key ≡ 16 → Bytes key
     → (parts : List (List ℕ)) (tail : List ℕ) (l : ℕ) → l ≤ length tail * 8
-    → (tag : ℕ) × Tagged-128 (startOutcome-EIA3 count bearer direction key) (joined parts ++ tail) (length (joined parts) * 8 + l) tag
+    → Accepts-128 (startOutcome-EIA3 count bearer direction key) parts tail l
 unfolding startOutcome-EIA3
 every-cutting-eia3 count bearer direction key a hk =
     let loaded : State = load₁₂₈ key (IV-EIA3 count bearer direction) in
@@ -122,7 +123,7 @@ every-cutting-eia3 count bearer direction key a hk =
 
 pub every-cutting-zuc256 : {w : ℕ} → Width w → (key iv : List ℕ) → length key ≡ 32 → length iv ≡ 23 → Bytes key → Bytes iv
     → (parts : List (List ℕ)) (tail : List ℕ) (l : ℕ) → l ≤ length tail * 8
-    → (tag : ℕ) × Tagged-256 w (startOutcome-256 w key iv) (joined parts ++ tail) (length (joined parts) * 8 + l) tag
+    → Accepts-256 w (startOutcome-256 w key iv) parts tail l
 unfolding startOutcome-256 finishOutcome-256
 every-cutting-zuc256 {w} v key iv a b hk hv =
     let loaded : State = load₂₅₆ (rowOf w) key iv in

@@ -60,7 +60,7 @@ updates-are {test} {w} v {s} (more {part = part} {parts = parts} o told ok rest)
     ∙ ap (packed w) (sym (updated-append (w * 8) st part (joined parts)))
 
 -- a closing ends the run of a start and its updates
-pub ended : {Tag : Type 0} (test : Stored → Bool) (finishOutcome : Stored → List ℕ → ℕ → Closing Tag) (numberIn : Tag → ℕ)
+abbrev pub ended : {Tag : Type 0} (test : Stored → Bool) (finishOutcome : Stored → List ℕ → ℕ → Closing Tag) (numberIn : Tag → ℕ)
     (parts : List (List ℕ)) (start : Outcome) → start .number ≡ 0 → (last : Stored) → Updates test (start .state) parts last
     → (tail : List ℕ) (l : ℕ) (end : Closing Tag) → end ≡ finishOutcome last tail l → end .number ≡ 0
     → Tagged test finishOutcome numberIn start (joined parts ++ tail) (length (joined parts) * 8 + l) (numberIn (end .tag))

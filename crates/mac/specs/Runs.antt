@@ -42,6 +42,18 @@ Tagged-128 = Tagged formed-128 finishOutcome-128 (λ tag. tag)
 abbrev pub Tagged-256 : ℕ → Outcome → List ℕ → ℕ → ℕ → Type 0
 Tagged-256 width = Tagged formed finishOutcome-256 (tagOf width)
 
+-- that a start's calls are accepted over these very parts, this tail and these bits of it, and give some tag
+abbrev pub Accepts : {Tag : Type 0} → (Stored → Bool) → (Stored → List ℕ → ℕ → Closing Tag) → (Tag → ℕ) → Outcome → List (List ℕ) → List ℕ → ℕ → Type 0
+Accepts test finishOutcome numberIn start parts tail l =
+    (tag : ℕ) × (r : Tagged test finishOutcome numberIn start (joined parts ++ tail) (length (joined parts) * 8 + l) tag)
+    × ((r .parts ≡ parts) × (r .tail ≡ tail) × (r .l ≡ l))
+
+abbrev pub Accepts-128 : Outcome → List (List ℕ) → List ℕ → ℕ → Type 0
+Accepts-128 = Accepts formed-128 finishOutcome-128 (λ tag. tag)
+
+abbrev pub Accepts-256 : ℕ → Outcome → List (List ℕ) → List ℕ → ℕ → Type 0
+Accepts-256 width = Accepts formed finishOutcome-256 (tagOf width)
+
 -- a tag of a message of l bits made by an accepted one-shot: told is what is told of its result
 pub record Computed {Tag : Type 0} (once : List ℕ → ℕ → Once Tag) (numberIn : Tag → ℕ) (message : List ℕ) (l tag : ℕ) : Type 0 where
   pub told : Once Tag

@@ -45,6 +45,6 @@ maskCrate words L buffer = maskedBuffer (keptByCrate L) words buffer
 abbrev pub maskClean : (ℕ → ℕ) → ℕ → List ℕ → List ℕ
 maskClean words L buffer = maskedBuffer (keptByClean L) words buffer
 
--- Document 01: the words drawn over a buffer of n bytes, in both modes (3.4, keystream generation, asks ⌈LENGTH/32⌉ for)
+-- Document 01: the words drawn over a buffer of n bytes, in both modes. (3.4, keystream generation, needs ⌈LENGTH/32⌉)
 abbrev pub wordsToMask : ℕ → ℕ
 wordsToMask n = n / 4 + 1

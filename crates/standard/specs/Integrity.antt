@@ -25,7 +25,7 @@ whereSet zero x = 0
 whereSet (suc bit) x = x
 
 -- T = 0; for i = 0 .. l-1: if m[i] = 1 then T = T ⊕ (the window at from + i). That is, over a stream of bits and a message m of l bits:
--- the exclusive or of the windows of t bits, one for each set bit i of the message, `from` places behind it
+-- the exclusive or of the windows of t bits at the places from + i, i being the places of the message's set bits
 unfoldable pub T : (t : ℕ) (bits : ℕ → ℕ) (from : ℕ) (m : ℕ → ℕ) (l : ℕ) → ℕ
 T t bits from m zero = 0
 T t bits from m (suc l) = T t bits from m l ⊕ whereSet (m l) (window bits (from + l) t)
@@ -45,7 +45,7 @@ unfoldable pub tag-ZUC256 : ℕ → (ℕ → ℕ) → List ℕ → ℕ → ℕ
 tag-ZUC256 t words message l =
     window (z words) 0 t ⊕ T t (z words) t (M message) l ⊕ window (z words) (t + l) t
 
--- Document 01, "Tags": the words drawn after updates of N bytes in all, and by a closing call at LENGTH (l) bits in all
+-- Document 01, "Tags": the words drawn in all after updates of N bytes, and after a closing call that brings the message to LENGTH (l) bits
 abbrev pub drawnAfter-EIA3 : ℕ → ℕ
 drawnAfter-EIA3 N = 2 + N / 4
 

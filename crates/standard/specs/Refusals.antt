@@ -1,5 +1,5 @@
 -- The table of refusal numbers (document 01, "Refusal numbers, in order of checking"), and what deciding by it means.
--- Each number is given when, and only when, the words beside it hold and no test before it failed. Requests of document 02 add theirs here.
+-- Each number is given when, and only when, the words beside it hold and no test before it failed. Later requests add theirs here.
 use mathlib.Core.Bool.{Bool}
 use mathlib.Core.List.{List, [], _∷_}
 use Prim.Native.Nat.{ℕ, _*_}

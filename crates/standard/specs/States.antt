@@ -18,7 +18,7 @@ unfoldable pub zeros : State
 zeros = record { cells = replicate 16 0; R₁ = 0; R₂ = 0 }
 
 -- A tag's state: the generator, the key pair in four words of 64 bits, the tag in two, sixteen waiting bytes, their count, the width
--- in bytes. Document 01: "key pairs and tags as two or four 64-bit words"
+-- in bytes. Document 01, "What must change shape": key pairs and tags as two or four 64-bit words
 pub record Stored : Type 0 where
   pub generator : State
   pub key : List ℕ
