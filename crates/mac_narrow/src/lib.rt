@@ -19,7 +19,6 @@ use zuc_bulk::smaller;
 use zuc_bulk::state_of;
 use zuc_turn::Halves;
 use zuc_turn::raised;
-use zuc_turn::sums_at;
 use zuc_turn::turn;
 
 // What the loop carries beside the run: the registers, the key pair and the tag.
@@ -44,16 +43,14 @@ fn words_32(
     let mut h = start.h;
     let mut key = start.key;
     let mut tag = start.tag;
-    let mut sums = sums_at(run, 0);
     let n = part.len() / 4;
     for j in 0..n {
         let b = 4 * j;
         let e = b + 4;
         tag = tag ^ sum_32(key, &part[b..e], 0);
-        let t = turn(high, low, run, pairs, j, h, sums);
+        let t = turn(high, low, run, pairs, j, h);
         key = joined((key % 0x1_0000_0000) as u32, t.word);
         h = t.h;
-        sums = t.sums;
     }
     rest(run, pairs, n);
     Narrow { h, key, tag }

@@ -1,3 +1,3 @@
-pub mod Fold
 pub mod Linear
+pub mod Modulo
 pub mod Taps

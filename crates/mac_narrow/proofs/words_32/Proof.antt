@@ -8,7 +8,7 @@ use Rattle.standard.proofs.Generator.{after-none}
 use Rattle.standard.specs.Generator.{State, after}
 use Rattle.standard.specs.Notation.{_⊕_}
 use Rattle.zuc_turn.proofs.Runs.{turn-standing, turn-word}
-use Rattle.zuc_turn.specs.InnerRun.{Standing, Summed, stateAt}
+use Rattle.zuc_turn.specs.InnerRun.{Standing, stateAt}
 use borrow.Author.Needs.{needs}
 use Rattle.mac_registers.specs.Tagging.{Tagging, updated}
 use Rattle.mac_narrow.proofs.Bulk.{fed-part, idle}
@@ -16,29 +16,24 @@ use Rattle.mac_narrow.proofs.words_32.Statement.{statement}
 use Rattle.mac_narrow.proofs.words_32.Tie as tie
 
 abbrev Inv-loop : tie.InvT-loop
-Inv-loop high low run₀ pairs₀ part h₀ key₀ tag₀ sums₀ n j₀ run pairs h key tag sums j =
+Inv-loop high low run₀ pairs₀ part h₀ key₀ tag₀ n j₀ run pairs h key tag j =
     (j ≤ n)
     × (n ≤ 64)
     × (4 * n ≡ length part)
-    × Summed run j sums
     × Standing run pairs j h (after j (stateAt run₀ 0 h₀))
     × (idle (after j (stateAt run₀ 0 h₀)) key tag ≡ updated 32 (idle (stateAt run₀ 0 h₀) key₀ tag₀) (take (4 * j) part))
 
 abbrev μ-loop : tie.MeasureT-loop
-μ-loop high low run₀ pairs₀ part h₀ key₀ tag₀ sums₀ n j₀ run pairs h key tag sums j = n - j
-
-sums-at-requires : tie.Need-sums-at-requires Inv-loop μ-loop
-sums-at-requires c κs = (c .before .before .before .before .before .pre .1 .1 .0 .long, omega arith)
+μ-loop high low run₀ pairs₀ part h₀ key₀ tag₀ n j₀ run pairs h key tag j = n - j
 
 loop-holds : tie.Need-loop-holds Inv-loop μ-loop
 unfolding updated
 loop-holds c =
-    let start = c .before .before .before .before .before .before in
+    let start = c .before .before .before .before in
     let pre = start .pre .1 .1 in (
       omega arith,
       omega (arith, pre .1 .1),
       omega (arith, pre .1 .1),
-      c .sums-at .ensures,
       record { laid = pre .0; low = pre .1 .0; state = sym (after-none _) },
       ap (λ (σ : State). idle σ (start .args .start .key) (start .args .start .tag)) (after-none _),
     )
@@ -50,24 +45,24 @@ turn-requires : tie.Need-turn-requires Inv-loop μ-loop
 turn-requires c κs =
     let loop = c .before .before .before .before .before in
     let inv = loop .loop .inv in
-    let pre = loop .before .before .before .before .before .before .before .pre in
-    (pre .0, (pre .1 .0, (inv .4 .laid, (inv .4 .low, (inv .3, omega arith)))))
+    let pre = loop .before .before .before .before .before .pre in
+    (pre .0, (pre .1 .0, (inv .3 .laid, (inv .3 .low, omega arith))))
 
 add-j : tie.Need-add-j Inv-loop μ-loop
 add-j c =
-    let at-turn = c .before .before .before .before .before .before .before in
+    let at-turn = c .before .before .before .before .before .before in
     let inside = at-turn .before .before .before .before .before in
     omega (arith, inside .loop-test .taken, inside .before .loop .inv .1)
 
 loop-again : tie.Need-loop-again Inv-loop μ-loop
 loop-again c =
-    let at-key = c .before .before in
+    let at-key = c .before in
     let at-turn = at-key .before .before .before .before .before in
     let at-sum = at-turn .before .before .before in
     let inside = at-sum .before .before in
     let loop = inside .before in
     let l = loop .loop in
-    let start = loop .before .before .before .before .before .before .before in
+    let start = loop .before .before .before .before .before in
     let a = start .args in
     let σ : State = stateAt (a .run .now) 0 (a .start .h) in
     let st : Tagging = idle σ (a .start .key) (a .start .tag) in
@@ -75,38 +70,37 @@ loop-again c =
       omega (arith, inside .loop-test .taken),
       l .inv .1,
       l .inv .2,
-      turned .summed,
-      turn-standing σ _ _ (l .j) _ (l .inv .4) _ _ _ turned,
+      turn-standing σ _ _ (l .j) _ (l .inv .3) _ _ _ turned,
       ap (λ (x : ℕ). idle (after (l .j + 1) σ) x (l .tag ⊕ at-sum .sum-32 .result)) (at-key .joined .ensures)
-          ∙ fed-part σ st (a .part .now) (l .j) (l .key) (l .tag) _ _ (omega (arith, inside .loop-test .taken, l .inv .2)) (l .inv .5)
+          ∙ fed-part σ st (a .part .now) (l .j) (l .key) (l .tag) _ _ (omega (arith, inside .loop-test .taken, l .inv .2)) (l .inv .4)
           (at-sum .sum-32 .ensures)
-          (turn-word σ _ _ (l .j) _ (l .inv .4) _ _ _ turned),
+          (turn-word σ _ _ (l .j) _ (l .inv .3) _ _ _ turned),
     )
 
 rest-requires : tie.Need-rest-requires Inv-loop μ-loop
-rest-requires c κs = let laid = c .before .before .before .loop .inv .4 .laid in ((laid .long, laid .wide), omega arith)
+rest-requires c κs = let laid = c .before .before .before .loop .inv .3 .laid in ((laid .long, laid .wide), omega arith)
 
 returns : tie.Need-returns Inv-loop μ-loop
 returns c =
     let at-rest = c .before .before .before .before in
     let loop = at-rest .before .before .before .before in
     let l = loop .loop in
-    let start = loop .before .before .before .before .before .before .before in
+    let start = loop .before .before .before .before .before in
     let a = start .args in
     let σ : State = stateAt (a .run .now) 0 (a .start .h) in
     let n : ℕ = length (a .part .now) / 4 in
     let end : l .j ≡ n = omega (arith, l .inv .0) in
-    let standing = at-rest .rest .ensures (l .h) (after n σ) (subst (λ (k : ℕ). Standing (l .run) (l .pairs) k (l .h) (after k σ)) end (l .inv .4)) in
+    let standing = at-rest .rest .ensures (l .h) (after n σ) (subst (λ (k : ℕ). Standing (l .run) (l .pairs) k (l .h) (after k σ)) end (l .inv .3)) in
     record {
       laid = standing .laid;
       low = standing .low;
       tagging =
           ap (λ (τ : State). idle τ (l .key) (l .tag)) (standing .state ∙ ap (λ (k : ℕ). after k σ) (sym end))
-          ∙ l .inv .5
+          ∙ l .inv .4
           ∙ ap (updated 32 (idle σ (a .start .key) (a .start .tag))) (take-all (4 * l .j) (a .part .now) (omega (arith, end, l .inv .2)));
     }
 
 pub words-32-spec : {M : Type 1} → statement M
 words-32-spec =
     tie.close
-    (tie.spec Inv-loop μ-loop sums-at-requires loop-holds (λ c. omega arith) (λ c. omega arith) (λ c. omega arith) (λ c. omega arith) (λ c. omega arith) sum-32-requires turn-requires (λ c. search needs) (λ c κs. search needs) add-j (λ c. omega arith) loop-again rest-requires (λ c. omega arith) (λ c. omega arith) returns)
+    (tie.spec Inv-loop μ-loop loop-holds (λ c. omega arith) (λ c. omega arith) (λ c. omega arith) (λ c. omega arith) (λ c. omega arith) sum-32-requires turn-requires (λ c. search needs) (λ c κs. search needs) add-j (λ c. omega arith) loop-again rest-requires (λ c. omega arith) (λ c. omega arith) returns)
