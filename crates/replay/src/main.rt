@@ -21,7 +21,8 @@ fn fed(high: u8, c: u8) -> Nibble
     requires { ⌜ high ≤ 16 ⌝ }
     ensures { λ r. ⌜ (r .high ≤ 16) × (r .whole ≤ 1) ⌝ }
 {
-    if !is_digit(c) {
+    let low = digit(c);
+    if low == 16 {
         return Nibble {
             high,
             byte: 0,
@@ -30,14 +31,14 @@ fn fed(high: u8, c: u8) -> Nibble
     }
     if high == 16 {
         return Nibble {
-            high: digit(c),
+            high: low,
             byte: 0,
             whole: 0,
         };
     }
     Nibble {
         high: 16,
-        byte: high * 16 + digit(c),
+        byte: high * 16 + low,
         whole: 1,
     }
 }
@@ -54,19 +55,6 @@ fn pack(text: &mut [u8], n: usize) -> usize {
         out += f.whole;
     }
     out
-}
-
-fn is_digit(c: u8) -> bool {
-    if c < b'0' {
-        return false;
-    }
-    if c <= b'9' {
-        return true;
-    }
-    if c < b'a' {
-        return false;
-    }
-    c <= b'f'
 }
 
 // Records run, how many of them differ, and the place after the list.

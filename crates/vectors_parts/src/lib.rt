@@ -1,17 +1,16 @@
-// Parts of slices, bytes of text and a table to print, for the programs: total, so that a program needs no proof of its own for them.
+// Parts of slices and bytes of words, for the programs: total, so that a program needs no proof of its own for them.
 ghost use lib.ListN.{length};
-ghost use Prim.Native.Nat.{_<_, _≤_};
+ghost use Prim.Native.Nat.{_≤_};
 
-pub mod table;
-
-// The value of a hexadecimal digit.
+// The value of a hexadecimal digit, or 16 where it is none.
 pub fn digit(c: u8) -> u8
-    ensures { λ r. ⌜ r < 16 ⌝ }
+    ensures { λ r. ⌜ r ≤ 16 ⌝ }
 {
-    if c < b'A' {
-        return c % 16;
+    match c {
+        b'0'..=b'9' => c - b'0',
+        b'a'..=b'f' => c - b'a' + 10,
+        _ => 16,
     }
-    (c % 16 + 9) % 16
 }
 
 pub fn least(a: usize, b: usize) -> usize
@@ -23,29 +22,7 @@ pub fn least(a: usize, b: usize) -> usize
 // The first n bytes, or all where there are fewer.
 pub fn front(s: &[u8], n: usize) -> &[u8] {
     let m = least(n, s.len());
-    &s[..m]
-}
-
-// Hexadecimal text as bytes, as many as there is room for: how many.
-pub fn unhex(text: &[u8], out: &mut [u8]) -> usize
-    ensures { λ r. ⌜ r ≤ length (now (out .entry)) ⌝ }
-{
-    let n = least(text.len() / 2, out.len());
-    for i in 0..n {
-        out[i] = digit(text[i * 2]) * 16 + digit(text[i * 2 + 1]);
-    }
-    n
-}
-
-// The bytes of words, highest first, as many whole words as there is room for: how many bytes.
-pub fn bytes_of(words: &[u32], out: &mut [u8]) -> usize
-    ensures { λ r. ⌜ r ≤ length (now (out .entry)) ⌝ }
-{
-    let n = least(words.len(), out.len() / 4) * 4;
-    for i in 0..n {
-        out[i] = words::byte_of(words[i / 4], i % 4);
-    }
-    n
+    &s[0..m]
 }
 
 // The n bytes from a place on, or as many as there are.
@@ -60,15 +37,13 @@ pub fn byte_at(s: &[u8], at: usize) -> u8 {
     if at < s.len() { s[at] } else { 0 }
 }
 
-// Whether two runs of words are the same.
-pub fn same_wide(a: &[u64], b: &[u64]) -> bool {
-    if a.len() != b.len() {
-        return false;
+// The bytes of words, highest first, as many whole words as there is room for: how many bytes.
+pub fn bytes_of(words: &[u32], out: &mut [u8]) -> usize
+    ensures { λ r. ⌜ r ≤ length (now (out .entry)) ⌝ }
+{
+    let n = least(words.len(), out.len() / 4) * 4;
+    for i in 0..n {
+        out[i] = words::byte_of(words[i / 4], i % 4);
     }
-    for i in 0..a.len() {
-        if a[i] != b[i] {
-            return false;
-        }
-    }
-    true
+    n
 }

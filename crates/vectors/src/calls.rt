@@ -1,0 +1,306 @@
+// Lines that call, and what they tell. What a call writes to is lent full of sevens.
+use super::in_place::drawn;
+use super::text::bytes_in;
+use super::text::kind_of;
+use super::text::line_at;
+use super::text::numbers_in;
+use super::text::put;
+use super::told;
+use capi::generators::eea3_start;
+use capi::generators::zuc_draw;
+use capi::generators::zuc_mask_clean;
+use capi::generators::zuc_mask_crate;
+use capi::generators::zuc_words;
+use capi::generators::zuc128_start;
+use capi::generators::zuc256_start;
+use capi::tags::eia3_tag;
+use capi::tags::eia3_tag_start;
+use capi::tags::zuc128_tag;
+use capi::tags::zuc128_tag_finish;
+use capi::tags::zuc128_tag_start;
+use capi::tags::zuc128_tag_update;
+use capi::tags::zuc256_tag;
+use capi::tags::zuc256_tag_finish;
+use capi::tags::zuc256_tag_start;
+use capi::tags::zuc256_tag_update;
+use capi_answers::ACCEPTED;
+use capi_answers::draw_number;
+use capi_answers::draw_word;
+use capi_arrays::array_of;
+use capi_arrays::state_in;
+use vectors_parts::front;
+use vectors_parts::least;
+
+// The arrays that the lines work on.
+pub type Generator = [u32; 18];
+
+pub type TagArray = [u64; 19];
+
+// Kinds 0 to 5, starts of both arrays: the number.
+fn started(
+    kind: usize,
+    n: [u64; 4],
+    key: &[u8],
+    iv: &[u8],
+    g: &mut Generator,
+    t: &mut TagArray,
+) -> u32 {
+    let count = (n[0] % 0x1_0000_0000) as u32;
+    let bearer = (n[1] % 256) as u8;
+    let direction = (n[2] % 256) as u8;
+    match kind {
+        0 => zuc128_start(g, key, iv),
+        1 => zuc256_start(g, key, iv),
+        2 => eea3_start(g, count, bearer, direction, key),
+        3 => zuc128_tag_start(t, key, iv),
+        4 => eia3_tag_start(t, count, bearer, direction, key),
+        _ => zuc256_tag_start(t, n[0] as usize, key, iv),
+    }
+}
+
+// One draw after another into a buffer; of their numbers the last that was no 0.
+fn draw_each(g: &mut Generator, words: &mut [u32]) -> u32 {
+    let mut number = ACCEPTED;
+    for i in 0..words.len() {
+        let mut word: u32 = 7;
+        let told = zuc_draw(g, &mut word);
+        words[i] = word;
+        if told != ACCEPTED {
+            number = told;
+        }
+    }
+    number
+}
+
+// Kinds 6 and 7, draws one by one and at once: the number, and the words from one of them on.
+fn drew(kind: usize, n: [u64; 4], g: &mut Generator, words: &mut [u32], out: &mut [u8]) -> usize {
+    let many = least(n[0] as usize, words.len());
+    let from = least(n[1] as usize, many);
+    if kind == 6 {
+        let number = draw_each(g, &mut words[0..many]);
+        return told::drawn(number, &words[from..many], out);
+    }
+    let number = zuc_words(g, &mut words[0..many]);
+    told::drawn(number, &words[from..many], out)
+}
+
+// Kind 8, a draw of the generator as a struct that is lent: the number, and the word.
+fn draw_in_place(g: &mut Generator, out: &mut [u8]) -> usize {
+    let drew = drawn(state_in(*g));
+    let next = drew.state;
+    let answer = drew.answer;
+    *g = array_of(next);
+    let word = [draw_word(answer)];
+    told::drawn(draw_number(answer), &word, out)
+}
+
+// Kinds 9 and 10, masks: the number, the count and the buffer.
+fn masked(
+    kind: usize,
+    n: [u64; 4],
+    bytes: &[u8],
+    g: &mut Generator,
+    buf: &mut [u8],
+    out: &mut [u8],
+) -> usize {
+    let len = least(put(bytes, buf, 0), buf.len());
+    let bits = n[0] as usize;
+    let mut count: usize = 7;
+    if kind == 9 {
+        let number = zuc_mask_crate(g, &mut buf[0..len], bits, &mut count);
+        return told::mask(number, count, &buf[0..len], out);
+    }
+    let number = zuc_mask_clean(g, &mut buf[0..len], bits, &mut count);
+    told::mask(number, count, &buf[0..len], out)
+}
+
+// The exports of ZUC-256, or those of ZUC-128 and EIA3.
+fn update(wide: bool, t: &mut TagArray, msg: &[u8]) -> u32 {
+    if wide {
+        return zuc256_tag_update(t, msg);
+    }
+    zuc128_tag_update(t, msg)
+}
+
+fn finish(wide: bool, t: &mut TagArray, tail: &[u8], bits: usize, out: &mut [u8]) -> usize {
+    let mut tag = [7u64; 2];
+    if wide {
+        let number = zuc256_tag_finish(t, tail, bits, &mut tag);
+        return told::tag(number, tag, out);
+    }
+    let number = zuc128_tag_finish(t, tail, bits, &mut tag);
+    told::tag(number, tag, out)
+}
+
+// A message given to a copy of the array in parts of a size, an empty one behind each, and closed by what is left of its bits.
+fn in_parts(
+    wide: bool,
+    start: TagArray,
+    size: usize,
+    msg: &[u8],
+    bits: usize,
+    out: &mut [u8],
+) -> usize {
+    if size == 0 {
+        return 0;
+    }
+    let mut t = start;
+    let whole = least(bits / 8, msg.len());
+    let mut i: usize = 0;
+    while size <= whole - i {
+        let e = i + size;
+        update(wide, &mut t, &msg[i..e]);
+        update(wide, &mut t, front(msg, 0));
+        i = e;
+    }
+    finish(wide, &mut t, &msg[i..], bits - i * 8, out)
+}
+
+// Kinds 11 to 16, updates and closings: the number, and of a closing the tag.
+fn fed(kind: usize, n: [u64; 4], msg: &[u8], t: &mut TagArray, out: &mut [u8]) -> usize {
+    let first = n[0] as usize;
+    let second = n[1] as usize;
+    match kind {
+        11 => told::number(update(false, t, msg) as u64, out, 0),
+        12 => told::number(update(true, t, msg) as u64, out, 0),
+        13 => finish(false, t, msg, first, out),
+        14 => finish(true, t, msg, first, out),
+        15 => in_parts(false, *t, first, msg, second, out),
+        _ => in_parts(true, *t, first, msg, second, out),
+    }
+}
+
+// Kinds 17 to 19, one-shots: the number, and the tag.
+fn once(kind: usize, n: [u64; 4], a: &[u8], b: &[u8], c: &[u8], out: &mut [u8]) -> usize {
+    let count = (n[0] % 0x1_0000_0000) as u32;
+    let bearer = (n[1] % 256) as u8;
+    let direction = (n[2] % 256) as u8;
+    let mut tag = [7u64; 2];
+    let number = match kind {
+        17 => zuc128_tag(a, b, c, n[0] as usize, &mut tag),
+        18 => eia3_tag(count, bearer, direction, a, b, n[3] as usize, &mut tag),
+        _ => zuc256_tag(n[0] as usize, a, b, c, n[1] as usize, &mut tag),
+    };
+    told::tag(number, tag, out)
+}
+
+// Kinds 20 to 23, an array as it stands, or with one of its words set.
+fn array(kind: usize, n: [u64; 4], g: &mut Generator, t: &mut TagArray, out: &mut [u8]) -> usize {
+    let at = n[0] as usize;
+    if kind == 20 {
+        return told::words(g, out, 0);
+    }
+    if kind == 21 {
+        return told::longs(t, out, 0);
+    }
+    if kind == 22 {
+        if at < 18 {
+            g[at] = (n[1] % 0x1_0000_0000) as u32;
+            return put(b"set ", out, 0);
+        }
+    }
+    if kind == 23 {
+        if at < 19 {
+            t[at] = n[1];
+            return put(b"set ", out, 0);
+        }
+    }
+    0
+}
+
+// A line of a kind, with its numbers and bytes: the length of what was told, or 0 where it is of no kind.
+fn made(
+    kind: usize,
+    n: [u64; 4],
+    a: &[u8],
+    b: &[u8],
+    c: &[u8],
+    g: &mut Generator,
+    t: &mut TagArray,
+    out: &mut [u8],
+) -> usize {
+    let mut words = [7u32; 2048];
+    let mut buf = [0u8; 1024];
+    match kind {
+        0..=5 => told::number(started(kind, n, a, b, g, t) as u64, out, 0),
+        6..=7 => drew(kind, n, g, &mut words, out),
+        8 => draw_in_place(g, out),
+        9..=10 => masked(kind, n, a, g, &mut buf, out),
+        11..=16 => fed(kind, n, a, t, out),
+        17..=19 => once(kind, n, a, b, c, out),
+        _ => array(kind, n, g, t, out),
+    }
+}
+
+// A line's numbers and bytes by its pattern.
+fn read(
+    kind: usize,
+    line: &[u8],
+    pattern: &[u8],
+    g: &mut Generator,
+    t: &mut TagArray,
+    out: &mut [u8],
+) -> usize {
+    let mut a = [0u8; 1024];
+    let first = bytes_in(line, pattern, 0, &mut a);
+    let mut b = [0u8; 1024];
+    let second = bytes_in(line, pattern, 1, &mut b);
+    let mut c = [0u8; 1024];
+    let third = bytes_in(line, pattern, 2, &mut c);
+    made(
+        kind,
+        numbers_in(line, pattern),
+        front(&a, first),
+        front(&b, second),
+        front(&c, third),
+        g,
+        t,
+        out,
+    )
+}
+
+// A line that is of no kind tells nothing.
+fn by_table(
+    line: &[u8],
+    table: &[u8],
+    g: &mut Generator,
+    t: &mut TagArray,
+    out: &mut [u8],
+) -> usize {
+    let kind = kind_of(line, table);
+    read(kind.number, line, line_at(table, kind.at), g, t, out)
+}
+
+// The kinds of lines, numbered from 0: N stands for a decimal number, W for a word in hexadecimal, B for bytes.
+pub fn call(line: &[u8], g: &mut Generator, t: &mut TagArray, out: &mut [u8]) -> usize {
+    by_table(
+        line,
+        b"zuc128_start key B iv B
+zuc256_start key B iv B
+eea3_start count W bearer N direction N key B
+zuc128_tag_start key B iv B
+eia3_tag_start count W bearer N direction N key B
+zuc256_tag_start width N key B iv B
+zuc_draw n N
+zuc_words n N from N
+generate_in_place
+zuc_mask_crate buf B bits N
+zuc_mask_clean buf B bits N
+zuc128_tag_update msg B
+zuc256_tag_update msg B
+zuc128_tag_finish msg B bits N
+zuc256_tag_finish msg B bits N
+zuc128_tag_parts size N msg B bits N
+zuc256_tag_parts size N msg B bits N
+zuc128_tag key B iv B msg B bits N
+eia3_tag count W bearer N direction N key B msg B bits N
+zuc256_tag width N key B iv B msg B bits N
+generator
+tag
+generator word N is W
+tag word N is W",
+        g,
+        t,
+        out,
+    )
+}
