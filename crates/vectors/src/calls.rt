@@ -72,15 +72,19 @@ fn draw_each(g: &mut Generator, words: &mut [u32]) -> u32 {
     number
 }
 
-// Kinds 6 and 7, draws one by one and at once: the number, and the words from one of them on.
+// Draws one by one, or at once.
+fn draw(kind: usize, g: &mut Generator, words: &mut [u32]) -> u32 {
+    if kind == 6 {
+        return draw_each(g, words);
+    }
+    zuc_words(g, words)
+}
+
+// Kinds 6 and 7, draws: the number, and the words from one of them on.
 fn drew(kind: usize, n: [u64; 4], g: &mut Generator, words: &mut [u32], out: &mut [u8]) -> usize {
     let many = least(n[0] as usize, words.len());
     let from = least(n[1] as usize, many);
-    if kind == 6 {
-        let number = draw_each(g, &mut words[0..many]);
-        return told::drawn(number, &words[from..many], out);
-    }
-    let number = zuc_words(g, &mut words[0..many]);
+    let number = draw(kind, g, &mut words[0..many]);
     told::drawn(number, &words[from..many], out)
 }
 
@@ -94,23 +98,26 @@ fn draw_in_place(g: &mut Generator, out: &mut [u8]) -> usize {
     told::drawn(draw_number(answer), &word, out)
 }
 
+// A mask in crate mode, or in clean mode.
+fn mask(kind: usize, g: &mut Generator, buf: &mut [u8], bits: usize, count: &mut usize) -> u32 {
+    if kind == 9 {
+        return zuc_mask_crate(g, buf, bits, count);
+    }
+    zuc_mask_clean(g, buf, bits, count)
+}
+
 // Kinds 9 and 10, masks: the number, the count and the buffer.
 fn masked(
     kind: usize,
-    n: [u64; 4],
+    bits: usize,
     bytes: &[u8],
     g: &mut Generator,
     buf: &mut [u8],
     out: &mut [u8],
 ) -> usize {
     let len = least(put(bytes, buf, 0), buf.len());
-    let bits = n[0] as usize;
     let mut count: usize = 7;
-    if kind == 9 {
-        let number = zuc_mask_crate(g, &mut buf[0..len], bits, &mut count);
-        return told::mask(number, count, &buf[0..len], out);
-    }
-    let number = zuc_mask_clean(g, &mut buf[0..len], bits, &mut count);
+    let number = mask(kind, g, &mut buf[0..len], bits, &mut count);
     told::mask(number, count, &buf[0..len], out)
 }
 
@@ -184,31 +191,25 @@ fn once(kind: usize, n: [u64; 4], a: &[u8], b: &[u8], c: &[u8], out: &mut [u8]) 
     told::tag(number, tag, out)
 }
 
-// Kinds 20 to 23, an array as it stands, or with one of its words set.
-fn array(kind: usize, n: [u64; 4], g: &mut Generator, t: &mut TagArray, out: &mut [u8]) -> usize {
-    let at = n[0] as usize;
-    if kind == 20 {
-        return told::words(g, out, 0);
-    }
-    if kind == 21 {
-        return told::longs(t, out, 0);
-    }
+// Kinds 22 and 23, a word of an array set.
+fn set(kind: usize, at: usize, word: u64, g: &mut Generator, t: &mut TagArray) -> bool {
     if kind == 22 {
         if at < 18 {
-            g[at] = (n[1] % 0x1_0000_0000) as u32;
-            return put(b"set ", out, 0);
+            g[at] = (word % 0x1_0000_0000) as u32;
+            return true;
         }
     }
     if kind == 23 {
         if at < 19 {
-            t[at] = n[1];
-            return put(b"set ", out, 0);
+            t[at] = word;
+            return true;
         }
     }
-    0
+    false
 }
 
-// A line of a kind, with its numbers and bytes: the length of what was told, or 0 where it is of no kind.
+// A line of a kind, with its numbers and bytes: the length of what was told, or 0 where it is of no kind. Kinds 20 and 21 are the arrays
+// as they stand.
 fn made(
     kind: usize,
     n: [u64; 4],
@@ -219,16 +220,22 @@ fn made(
     t: &mut TagArray,
     out: &mut [u8],
 ) -> usize {
-    let mut words = [7u32; 2048];
-    let mut buf = [0u8; 1024];
     match kind {
         0..=5 => told::number(started(kind, n, a, b, g, t) as u64, out, 0),
-        6..=7 => drew(kind, n, g, &mut words, out),
+        6..=7 => {
+            let mut words = [7u32; 2048];
+            drew(kind, n, g, &mut words, out)
+        }
         8 => draw_in_place(g, out),
-        9..=10 => masked(kind, n, a, g, &mut buf, out),
+        9..=10 => {
+            let mut buf = [0u8; 1024];
+            masked(kind, n[0] as usize, a, g, &mut buf, out)
+        }
         11..=16 => fed(kind, n, a, t, out),
         17..=19 => once(kind, n, a, b, c, out),
-        _ => array(kind, n, g, t, out),
+        20 => told::words(g, out, 0),
+        21 => told::longs(t, out, 0),
+        _ => told::done(set(kind, n[0] as usize, n[1], g, t), out),
     }
 }
 

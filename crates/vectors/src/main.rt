@@ -172,7 +172,7 @@ fn run(script: &[u8]) -> Tally {
 }
 
 fn main() {
-    let mut script = [0u8; 262144];
+    let mut script = [0u8; 131072];
     let n = io::read_full(STDIN_FILENO, &mut script);
     table::foot(run(front(&script, n)));
 }

@@ -64,3 +64,11 @@ pub fn drawn(n: u32, drawn: &[u32], out: &mut [u8]) -> usize {
     let end = number(n as u64, out, 0);
     words(drawn, out, end)
 }
+
+// That something was done.
+pub fn done(was: bool, out: &mut [u8]) -> usize {
+    if was {
+        return put(b"set ", out, 0);
+    }
+    0
+}
