@@ -21,6 +21,7 @@ use vectors_parts::bytes_of;
 use vectors_parts::front;
 use vectors_parts::least;
 use vectors_parts::part;
+use vectors_parts::put;
 use zuc::Zuc;
 
 fn bytes_at(r: &[u8], f: Field) -> &[u8] {
@@ -56,7 +57,7 @@ fn next_word(state: Zuc) -> u32 {
 // The first n words of a buffer filled, and the state after them.
 fn fill_front(state: Zuc, words: &mut [u32], n: usize) -> Zuc {
     let m = least(n, words.len());
-    let filled = keystream::fill(state, &mut words[..m]);
+    let filled = keystream::fill(state, &mut words[0..m]);
     filled.state
 }
 
@@ -75,16 +76,9 @@ fn words_agree(r: &[u8], c: Call, a: Answer) -> bool {
     check::same(front(&bytes, n * 4), bytes_at(r, a.bytes))
 }
 
-fn copy_front(from: &[u8], to: &mut [u8]) {
-    let n = least(from.len(), to.len());
-    for i in 0..n {
-        to[i] = from[i];
-    }
-}
-
 fn mask_front(state: Zuc, buffer: &mut [u8], n: usize, bits: usize) -> Masked {
     let m = least(n, buffer.len());
-    mask::mask_crate(state, &mut buffer[..m], bits)
+    mask::mask_crate(state, &mut buffer[0..m], bits)
 }
 
 // The refusal number and the words drawn of a mask.
@@ -98,7 +92,7 @@ fn mask_told(answer: MaskAnswer, refusal: u8, drawn: usize) -> bool {
 fn mask_agrees(r: &[u8], c: Call, a: Answer) -> bool {
     let mut buffer = [0u8; 256];
     let n = a.tail.len;
-    copy_front(bytes_at(r, a.tail), &mut buffer);
+    put(bytes_at(r, a.tail), &mut buffer, 0);
     let masked = mask_front(started(r, c), &mut buffer, n, a.bits);
     let answer = masked.answer;
     let state = masked.state;

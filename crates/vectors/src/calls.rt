@@ -4,7 +4,6 @@ use super::text::bytes_in;
 use super::text::kind_of;
 use super::text::line_at;
 use super::text::numbers_in;
-use super::text::put;
 use super::told;
 use capi::generators::eea3_start;
 use capi::generators::zuc_draw;
@@ -30,6 +29,7 @@ use capi_arrays::array_of;
 use capi_arrays::state_in;
 use vectors_parts::front;
 use vectors_parts::least;
+use vectors_parts::put;
 
 // The arrays that the lines work on.
 pub type Generator = [u32; 18];
@@ -239,34 +239,7 @@ fn made(
     }
 }
 
-// A line's numbers and bytes by its pattern.
-fn read(
-    kind: usize,
-    line: &[u8],
-    pattern: &[u8],
-    g: &mut Generator,
-    t: &mut TagArray,
-    out: &mut [u8],
-) -> usize {
-    let mut a = [0u8; 1024];
-    let first = bytes_in(line, pattern, 0, &mut a);
-    let mut b = [0u8; 1024];
-    let second = bytes_in(line, pattern, 1, &mut b);
-    let mut c = [0u8; 1024];
-    let third = bytes_in(line, pattern, 2, &mut c);
-    made(
-        kind,
-        numbers_in(line, pattern),
-        front(&a, first),
-        front(&b, second),
-        front(&c, third),
-        g,
-        t,
-        out,
-    )
-}
-
-// A line that is of no kind tells nothing.
+// A line by the pattern of a table that it fits, which says where its numbers and bytes are.
 fn by_table(
     line: &[u8],
     table: &[u8],
@@ -275,7 +248,23 @@ fn by_table(
     out: &mut [u8],
 ) -> usize {
     let kind = kind_of(line, table);
-    read(kind.number, line, line_at(table, kind.at), g, t, out)
+    let pattern = line_at(table, kind.at);
+    let mut a = [0u8; 1024];
+    let first = bytes_in(line, pattern, 0, &mut a);
+    let mut b = [0u8; 1024];
+    let second = bytes_in(line, pattern, 1, &mut b);
+    let mut c = [0u8; 1024];
+    let third = bytes_in(line, pattern, 2, &mut c);
+    made(
+        kind.number,
+        numbers_in(line, pattern),
+        front(&a, first),
+        front(&b, second),
+        front(&c, third),
+        g,
+        t,
+        out,
+    )
 }
 
 // The kinds of lines, numbered from 0: N stands for a decimal number, W for a word in hexadecimal, B for bytes.

@@ -7,6 +7,7 @@ use vectors_parts::digit;
 use vectors_parts::front;
 use vectors_parts::least;
 use vectors_parts::part;
+use vectors_parts::put;
 
 // A pattern of a table: its number, from 0, and its place.
 pub struct Kind {
@@ -167,16 +168,6 @@ pub fn kind_of(line: &[u8], table: &[u8]) -> Kind {
         number: table.len(),
         at: table.len(),
     }
-}
-
-// Text put into a buffer from a place on, as much as there is room for: the place behind it.
-pub fn put(text: &[u8], out: &mut [u8], at: usize) -> usize {
-    let from = least(at, out.len());
-    let n = least(text.len(), out.len() - from);
-    for i in 0..n {
-        out[from + i] = text[i];
-    }
-    from + n
 }
 
 // A word put into a buffer: what stands before its * as often as the number behind that says, or else itself.

@@ -1,7 +1,7 @@
 // What a call told, as text: numbers in decimal, words and bytes in hexadecimal, a space behind each.
-use super::text::put;
 use vectors_parts::bytes_of;
 use vectors_parts::front;
+use vectors_parts::put;
 
 // A number behind a place.
 pub fn number(n: u64, out: &mut [u8], at: usize) -> usize {

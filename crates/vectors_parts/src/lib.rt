@@ -47,3 +47,13 @@ pub fn bytes_of(words: &[u32], out: &mut [u8]) -> usize
     }
     n
 }
+
+// Bytes put into a buffer from a place on, as much as there is room for: the place behind it.
+pub fn put(bytes: &[u8], out: &mut [u8], at: usize) -> usize {
+    let from = least(at, out.len());
+    let n = least(bytes.len(), out.len() - from);
+    for i in 0..n {
+        out[from + i] = bytes[i];
+    }
+    from + n
+}

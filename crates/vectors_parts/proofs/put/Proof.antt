@@ -1,16 +1,16 @@
--- `put` stays inside text and buffer: it puts no more than there is, and than there is room for.
+-- `put` stays inside bytes and buffer: it puts no more than there is, and than there is room for.
 use lib.ListN.{length}
 use mathlib.Core.Path.{_≡_}
 use Prim.Native.Nat.{_+_, _-_, _≤_}
 use borrow.Author.Needs.{needs}
-use Rattle.vectors.proofs.text.put.Statement.{statement}
-use Rattle.vectors.proofs.text.put.Tie as tie
+use Rattle.vectors_parts.proofs.put.Statement.{statement}
+use Rattle.vectors_parts.proofs.put.Tie as tie
 
 abbrev Inv-loop : tie.InvT-loop
-Inv-loop text out₀ at from n i₀ out i = (n ≤ length text) × (from + n ≤ length out₀) × (length out ≡ length out₀)
+Inv-loop bytes out₀ at from n i₀ out i = (n ≤ length bytes) × (from + n ≤ length out₀) × (length out ≡ length out₀)
 
 abbrev μ-loop : tie.MeasureT-loop
-μ-loop text out₀ at from n i₀ out i = n - i
+μ-loop bytes out₀ at from n i₀ out i = n - i
 
 pub put-spec : {M : Type 1} → statement M
 put-spec =
