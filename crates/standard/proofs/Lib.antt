@@ -12,5 +12,6 @@ pub mod Extra
 pub mod Linear
 pub mod Listed
 pub mod Tested
+pub mod Guard
 pub mod Promise
 pub mod Examples

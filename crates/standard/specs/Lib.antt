@@ -7,4 +7,5 @@ pub mod Confidentiality
 pub mod Integrity
 pub mod Refusals
 pub mod States
+pub mod Guard
 pub mod Examples

@@ -1,9 +1,10 @@
 -- The table of refusal numbers (document 01, "Refusal numbers, in order of checking"), and what deciding by it means.
 -- Each number is given when, and only when, the words beside it hold and no test before it failed. Later requests add theirs here.
-use mathlib.Core.Bool.{Bool}
+-- Document 01's are checked in rising order; a request says its own order.
+use mathlib.Core.Bool.{Bool, not}
 use mathlib.Core.List.{List, [], _∷_}
-use Prim.Native.Nat.{ℕ, _*_}
-use lib.Dec.{eqb, leb}
+use Prim.Native.Nat.{ℕ, _+_, _*_}
+use lib.Dec.{eqb, leb, ltb}
 use lib.ListN.{length}
 use Rattle.standard.specs.Notation.{if_then_else_}
 use Rattle.standard.specs.Integrity.{isWidth}
@@ -32,6 +33,19 @@ badState = 4
 abbrev pub badBits : ℕ
 badBits = 5
 
+-- Request 2026-03 (a guard over a table of links), checked in this order: 13, 12, 11.
+-- no such link
+abbrev pub badLink : ℕ
+badLink = 13
+
+-- the COUNT is more than 63 below the link's highest
+abbrev pub badAge : ℕ
+badAge = 12
+
+-- the COUNT was already accepted
+abbrev pub badReuse : ℕ
+badReuse = 11
+
 -- a test that a call makes before it alters anything, and the number that refuses where it fails
 pub record Test : Type 0 where
   pub passes : Bool
@@ -51,6 +65,16 @@ stateTest formed = record { passes = formed; number = badState }
 
 abbrev pub bitsTest : ℕ → List ℕ → Test
 bitsTest bits lent = record { passes = leb bits (length lent * 8); number = badBits }
+
+-- of a place in a table; of a COUNT and a link's highest one; of whether a COUNT is known as accepted
+abbrev pub linkTest : {A : Type 0} → ℕ → List A → Test
+linkTest at table = record { passes = ltb at (length table); number = badLink }
+
+abbrev pub ageTest : ℕ → ℕ → Test
+ageTest COUNT highest = record { passes = leb highest (COUNT + 63); number = badAge }
+
+abbrev pub reuseTest : Bool → Test
+reuseTest known = record { passes = not known; number = badReuse }
 
 -- THE ORDER OF CHECKING: the first test that fails decides, and the call is refused by its number; where none fails, the answer
 unfoldable pub tested : {A : Type 0} → List Test → (ℕ → A) → A → A

@@ -1,0 +1,2 @@
+mod Tables
+mod Stepping
