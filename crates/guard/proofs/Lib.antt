@@ -1,2 +1,6 @@
-mod Tables
+pub mod Tables
 mod Stepping
+mod Histories
+pub mod Theorems
+pub mod Tight
+pub mod Called

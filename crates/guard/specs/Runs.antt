@@ -1,5 +1,5 @@
 -- Calls on one table, one after the other, as their contracts tell them: accept and re-key, on any links, in any order, accepted and refused.
-use lib.Dec.{eqb}
+use lib.Dec.{eqb, ltb}
 use mathlib.Core.Bool.{Bool, false, _&&_, _||_}
 use mathlib.Core.List.{List, [], _∷_}
 use mathlib.Core.Path.{_≡_}
@@ -7,7 +7,7 @@ use Prim.Native.Nat.{ℕ, max}
 use Rattle.guard.specs.Outcome.{Guarded, acceptOutcome, rekeyOutcome}
 use Rattle.standard.specs.Guard.{Link}
 use Rattle.standard.specs.Notation.{if_then_else_}
-use Rattle.standard.specs.Refusals.{accepted}
+use Rattle.standard.specs.Refusals.{Test, accepted, ageTest, badLink, reuseTest}
 
 -- a call and the number that it answered: accept (at, COUNT), re-key (at). A log has the last call first
 pub data Call : Type 0 where
@@ -36,6 +36,11 @@ highestOf (n ∷ rest) = max (highestOf rest) n
 unfoldable pub among : List ℕ → ℕ → Bool
 among [] COUNT = false
 among (n ∷ rest) COUNT = eqb COUNT n || among rest COUNT
+
+-- what decides on a COUNT, by the length of the table, the counts accepted since the last re-keying, the place and the COUNT
+abbrev pub historyTests : ℕ → List ℕ → ℕ → ℕ → List Test
+historyTests n counts at COUNT =
+    record { passes = ltb at n; number = badLink } ∷ ageTest COUNT (highestOf counts) ∷ reuseTest (among counts COUNT) ∷ []
 
 -- no call of a log is about a link; none re-keyed it
 abbrev pub Elsewhere : ℕ → List Call → Type 0

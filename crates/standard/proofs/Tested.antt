@@ -1,6 +1,7 @@
 -- The order of checking: what is known of an outcome by its tests, and of the tests by an outcome; by induction on the list of tests.
 use mathlib.Core.Bool.{Bool, true, false}
 use mathlib.Core.List.{List, [], _∷_}
+use mathlib.Core.Logic.{_⊎_, inl, inr, ⊎-elim}
 use mathlib.Core.Path.{_≡_, refl, sym, ap, _∙_}
 use Prim.Native.Nat.{ℕ, _<_}
 use native.Mathlib.Omega.{arith}
@@ -33,6 +34,19 @@ pub passed : {A : Type 0} (tests : List Test) (refused : ℕ → A) (answer : A)
 unfolding tested
 passed [] refused answer all = refl
 passed (test ∷ rest) refused answer all = rw (all .0) (passed rest refused answer (all .1))
+
+-- every test passes, or one of the numbers is the refusal
+if-decided : {A P : Type 0} (b : Bool) (x y : A) (refused : ℕ → A) (number : ℕ) → 0 < number → y ≡ refused number
+    → P ⊎ ((n : ℕ) × (0 < n) × (x ≡ refused n)) → ((b ≡ true) × P) ⊎ ((n : ℕ) × (0 < n) × ((if b then x else y) ≡ refused n))
+if-decided true x y refused number low e rest = ⊎-elim (λ all. inl (refl, all)) (λ r. inr r) rest
+if-decided false x y refused number low e rest = inr (number, low, e)
+
+pub decided : {A : Type 0} (tests : List Test) (refused : ℕ → A) (answer : A) → Numbered tests
+    → AllPass tests ⊎ ((n : ℕ) × (0 < n) × (tested tests refused answer ≡ refused n))
+unfolding tested
+decided [] refused answer low = inl tt
+decided (test ∷ rest) refused answer low =
+    if-decided (test .passes) (tested rest refused answer) (refused (test .number)) refused (test .number) (low .0) refl (decided rest refused answer (low .1))
 
 -- what is done with an outcome is done with its refusals and with its answer
 pub tested-map : {A B : Type 0} (f : A → B) (tests : List Test) (refused : ℕ → A) (answer : A)
