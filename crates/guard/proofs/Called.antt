@@ -8,7 +8,7 @@ use Prim.Native.Nat.{ℕ, zero, suc}
 use Rattle.standard.proofs.Promise.{Says}
 use Rattle.standard.specs.Guard.{Link, fresh}
 use Rattle.guard.proofs.Tables.{freshLink}
-use Rattle.guard.proofs.Tight.{accept-post, rekey-post}
+use Rattle.guard.proofs.Tight.{accept-in-post, accept-post, rekey-post}
 use Rattle.guard.specs.Outcome.{acceptNumber, rekeyNumber, tableOf}
 use Rattle.guard.specs.Runs.{Accept, Call, Calls, Rekey, accept, rekey}
 
@@ -21,6 +21,10 @@ module _ {table : List Link} {log : List Call} where
   pub called-rekey : Says rekey-post
       (λ κs a r s. Calls table log (tableOf (now (a .0))) → Calls table (Rekey (a .1 .0) (rekeyNumber r) ∷ log) (tableOf (now (s .0))))
   called-rekey κs a r s p run = rekey (a .1 .0) (record { number = rekeyNumber r; table = tableOf (now (s .0)) }) p run
+
+  pub called-accept-in : Says accept-in-post
+      (λ κs a r s. Calls table log (tableOf (a .0)) → Calls table (Accept (a .1 .0) (a .1 .1 .0) (acceptNumber (r .answer)) ∷ log) (tableOf (r .links)))
+  called-accept-in κs a r s p run = accept (a .1 .0) (a .1 .1 .0) (record { number = acceptNumber (r .answer); table = tableOf (r .links) }) p run
 
 pub fresh-table : (n : ℕ) → tableOf (replicate n freshLink) ≡ replicate n fresh
 fresh-table zero = refl

@@ -1,4 +1,5 @@
 pub mod Tables
+mod Rows
 mod Stepping
 mod Histories
 pub mod Theorems

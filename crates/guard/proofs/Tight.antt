@@ -11,11 +11,12 @@ use lib.Dec.{eqb}
 use mathlib.Core.List.{List, [], _∷_, map}
 use mathlib.Core.Path.{_≡_, _∙_, ap, refl, sym}
 use Prim.Native.Nat.{ℕ}
-use Rattle.standard.proofs.Promise.{AsksNothing, Tight}
+use Rattle.standard.proofs.Promise.{Tight}
 use Rattle.standard.specs.Guard.{Link}
 use Rattle.standard.specs.Notation.{if_then_else_}
 use Rattle.standard.specs.Refusals.{accepted, badAge, badReuse}
 use Rattle.guard.proofs.accept as accept
+use Rattle.guard.proofs.accept_in as accept-in
 use Rattle.guard.proofs.rekey as rekey
 use Rattle.guard.specs.declared.AcceptAnswer.{AcceptAnswer}
 use Rattle.guard.specs.declared.AcceptAnswer.the-variants as accept-answer
@@ -93,3 +94,19 @@ tight-rekey κs a r r′ s s′ p q = told-tight rekeyNumber rekeyAnswer rekey-b
 pub asks-nothing-rekey : (κs : Lfts 1) (a : ArgsD rekey.signature κs) (w : World)
     → rekey.clauses (w .𝓤) (w .H) (w .𝓖 .A) (w .𝓜 .mem) (w .𝓡 .run) κs a .requires tt ≡ emp (w .𝓤)
 asks-nothing-rekey κs a w = refl
+
+abbrev pub accept-in-read : (κs : Lfts 0) (a : ArgsD accept-in.signature κs) (r : ResD accept-in.signature κs) (s : AtExit accept-in.ended κs) (w : World)
+    → ReadAt w (λ w. emp (w .𝓤)) no-know (accept-in.clauses (w .𝓤) (w .H) (w .𝓖 .A) (w .𝓜 .mem) (w .𝓡 .run) κs a .ensures tt r s)
+accept-in-read κs a r s w = r-last _
+
+abbrev pub accept-in-post : (κs : Lfts 0) (a : ArgsD accept-in.signature κs) → ResD accept-in.signature κs → AtExit accept-in.ended κs → Type 0
+accept-in-post κs a r s = AllOf (accept-in-read κs a r s w₀ .tells)
+
+pub tight-accept-in : Tight accept-in-post (λ κs r s. r)
+tight-accept-in κs a r r′ s s′ p q =
+    let e = told-tight acceptNumber acceptAnswer accept-back (r .answer) (r′ .answer) (r .links) (r′ .links) (p ∙ sym q) in
+    λ i. record { links = e i .1; answer = e i .0 }
+
+pub asks-nothing-accept-in : (κs : Lfts 0) (a : ArgsD accept-in.signature κs) (w : World)
+    → accept-in.clauses (w .𝓤) (w .H) (w .𝓖 .A) (w .𝓜 .mem) (w .𝓡 .run) κs a .requires tt ≡ emp (w .𝓤)
+asks-nothing-accept-in κs a w = refl

@@ -119,3 +119,21 @@ pub fn rekey(links: &mut [Link], at: usize) -> RekeyAnswer
     };
     RekeyAnswer::Rekeyed
 }
+
+// A table of four links by value, and the answer to a COUNT.
+pub struct Four {
+    pub links: [Link; 4],
+    pub answer: AcceptAnswer,
+}
+
+// `accept` for a caller that has a table by value, and none to lend.
+pub fn accept_in(links: [Link; 4], at: usize, count: u32) -> Four
+    ensures { λ r. ⌜ record { number = acceptNumber (r .answer); table = tableOf (r .links) } ≡ acceptOutcome (tableOf links) at count ⌝ }
+{
+    let mut table = links;
+    let answer = accept(&mut table, at, count);
+    Four {
+        links: table,
+        answer,
+    }
+}
