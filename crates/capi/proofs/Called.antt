@@ -1,11 +1,17 @@
--- C calls of tags as Rattle reads their promises make the starts, updates, closings and one-shots that Theorems.antt is about.
+-- C calls of tags as Rattle reads their promises make the starts, updates, closings and one-shots that Theorems.antt is about; those of a guard
+-- make the logs that guard's own theorems are about.
 use denote.Ref.{now}
+use mathlib.Core.List.{List, _∷_}
 use mathlib.Core.Path.{_≡_}
 use Rattle.capi_arrays.specs.Arrays.{storedIn}
 use Rattle.capi.specs.Tags.{closingArray, tagArray, twoClosing, twoOnce}
+use Rattle.guard.specs.Outcome.{tableOf}
+use Rattle.guard.specs.Runs.{Accept, Call, Calls, Rekey, accept, rekey}
 use Rattle.mac.specs.Calls.{finishOutcome-128, finishOutcome-256, onceOutcome-128, onceOutcome-256, onceOutcome-EIA3, startOutcome-128, startOutcome-256, startOutcome-EIA3, updateOutcome}
 use Rattle.standard.proofs.Promise.{Says}
+use Rattle.standard.specs.Guard.{Link}
 use Rattle.standard.specs.States.{formed, formed-128}
+use Rattle.capi.proofs.Tight.{guard-accept-post, guard-rekey-post}
 use Rattle.capi.proofs.tags.zuc128_tag_start.Reads as zuc128-tag-start
 use Rattle.capi.proofs.tags.eia3_tag_start.Reads as eia3-tag-start
 use Rattle.capi.proofs.tags.zuc256_tag_start.Reads as zuc256-tag-start
@@ -56,3 +62,13 @@ called-eia3-tag κs a r s p = p
 pub called-zuc256-tag : Says zuc256-tag.Post
     (λ κs a r s. record { number = r; tag = now (s .1 .1 .1 .1 .1 .0) } ≡ onceOutcome-256 (a .0) (now (a .1 .0)) (now (a .1 .1 .0)) (now (a .1 .1 .1 .0)) (a .1 .1 .1 .1 .0))
 called-zuc256-tag κs a r s p = p
+
+-- a guard's calls before, and one more
+module _ {table : List Link} {log : List Call} where
+  pub called-zuc-guard-accept : Says guard-accept-post
+      (λ κs a r s. Calls table log (tableOf (now (a .0))) → Calls table (Accept (a .1 .0) (a .1 .1 .0) r ∷ log) (tableOf (now (s .0))))
+  called-zuc-guard-accept κs a r s p run = accept (a .1 .0) (a .1 .1 .0) (record { number = r; table = tableOf (now (s .0)) }) p run
+
+  pub called-zuc-guard-rekey : Says guard-rekey-post
+      (λ κs a r s. Calls table log (tableOf (now (a .0))) → Calls table (Rekey (a .1 .0) r ∷ log) (tableOf (now (s .0))))
+  called-zuc-guard-rekey κs a r s p run = rekey (a .1 .0) (record { number = r; table = tableOf (now (s .0)) }) p run

@@ -1,8 +1,14 @@
 -- Any two outcomes that the promise of an exported function allows are equal, the number returned and all that was lent, at exit; and none of
 -- the functions asks anything.
+use base.Logic.{emp}
+use borrow.Fn.Claims.{AllOf}
+use borrow.Fn.Read.{ReadAt, no-know, r-last}
+use borrow.Fn.World.{ArgsD, ResD, World, w₀}
+use contract.Lifetimes.{Lfts}
 use denote.Ref.{now}
+use denote.Triple.Clauses.{AtExit}
 use mathlib.Core.List.{List}
-use mathlib.Core.Path.{_∙_, sym}
+use mathlib.Core.Path.{_≡_, _∙_, refl, sym}
 use Prim.Native.Nat.{ℕ}
 use Rattle.standard.proofs.Promise.{AsksNothing, Tight}
 use Rattle.capi.proofs.generators.zuc128_start.Reads as zuc128-start
@@ -22,8 +28,13 @@ use Rattle.capi.proofs.tags.zuc256_tag_finish.Reads as zuc256-tag-finis
 use Rattle.capi.proofs.tags.zuc128_tag.Reads as zuc128-tag
 use Rattle.capi.proofs.tags.eia3_tag.Reads as eia3-tag
 use Rattle.capi.proofs.tags.zuc256_tag.Reads as zuc256-tag
+use Rattle.capi.proofs.links.zuc_guard_accept as zuc-guard-accept
+use Rattle.capi.proofs.links.zuc_guard_rekey as zuc-guard-rekey
 use Rattle.capi.specs.Generators.{DrawArray, MaskArray, StartArray, WordsArray}
 use Rattle.capi.specs.Tags.{ClosingArray, TagArray}
+use Rattle.guard.proofs.Tight.{told-tight}
+use Rattle.guard.specs.declared.Link.{Link}
+use Rattle.guard.specs.Outcome.{Guarded, tableOf}
 use Rattle.mac.specs.Calls.{Once}
 
 pub tight-zuc128-start : Tight {Seen = StartArray} zuc128-start.Post (λ κs r s. record { number = r; array = now (s .0) })
@@ -127,3 +138,37 @@ tight-zuc256-tag κs a r r′ s s′ p q = p ∙ sym q
 
 pub asks-nothing-zuc256-tag : AsksNothing zuc256-tag.Pre
 asks-nothing-zuc256-tag κs a = tt
+
+-- the guard: the number returned, and the table
+links-tight : (r r′ : ℕ) (ys ys′ : List Link) → _≡_ {A = Guarded} (record { number = r; table = tableOf ys }) (record { number = r′; table = tableOf ys′ })
+    → _≡_ {A = ℕ × List Link} (r, ys) (r′, ys′)
+links-tight = told-tight (λ (n : ℕ). n) (λ n. n) (λ n. refl)
+
+-- a function walked by hand has no `Reads`: what it promises and asks is read here, by the rules that read every other one
+abbrev pub guard-accept-read : (κs : Lfts 1) (a : ArgsD zuc-guard-accept.signature κs) (r : ResD zuc-guard-accept.signature κs) (s : AtExit zuc-guard-accept.ended κs) (w : World)
+    → ReadAt w (λ w. emp (w .𝓤)) no-know (zuc-guard-accept.clauses (w .𝓤) (w .H) (w .𝓖 .A) (w .𝓜 .mem) (w .𝓡 .run) κs a .ensures tt r s)
+guard-accept-read κs a r s w = r-last _
+
+abbrev pub guard-accept-post : (κs : Lfts 1) (a : ArgsD zuc-guard-accept.signature κs) → ResD zuc-guard-accept.signature κs → AtExit zuc-guard-accept.ended κs → Type 0
+guard-accept-post κs a r s = AllOf (guard-accept-read κs a r s w₀ .tells)
+
+pub tight-zuc-guard-accept : Tight {Seen = ℕ × List Link} guard-accept-post (λ κs r s. (r, now (s .0)))
+tight-zuc-guard-accept κs a r r′ s s′ p q = links-tight r r′ (now (s .0)) (now (s′ .0)) (p ∙ sym q)
+
+pub asks-nothing-zuc-guard-accept : (κs : Lfts 1) (a : ArgsD zuc-guard-accept.signature κs) (w : World)
+    → zuc-guard-accept.clauses (w .𝓤) (w .H) (w .𝓖 .A) (w .𝓜 .mem) (w .𝓡 .run) κs a .requires tt ≡ emp (w .𝓤)
+asks-nothing-zuc-guard-accept κs a w = refl
+
+abbrev pub guard-rekey-read : (κs : Lfts 1) (a : ArgsD zuc-guard-rekey.signature κs) (r : ResD zuc-guard-rekey.signature κs) (s : AtExit zuc-guard-rekey.ended κs) (w : World)
+    → ReadAt w (λ w. emp (w .𝓤)) no-know (zuc-guard-rekey.clauses (w .𝓤) (w .H) (w .𝓖 .A) (w .𝓜 .mem) (w .𝓡 .run) κs a .ensures tt r s)
+guard-rekey-read κs a r s w = r-last _
+
+abbrev pub guard-rekey-post : (κs : Lfts 1) (a : ArgsD zuc-guard-rekey.signature κs) → ResD zuc-guard-rekey.signature κs → AtExit zuc-guard-rekey.ended κs → Type 0
+guard-rekey-post κs a r s = AllOf (guard-rekey-read κs a r s w₀ .tells)
+
+pub tight-zuc-guard-rekey : Tight {Seen = ℕ × List Link} guard-rekey-post (λ κs r s. (r, now (s .0)))
+tight-zuc-guard-rekey κs a r r′ s s′ p q = links-tight r r′ (now (s .0)) (now (s′ .0)) (p ∙ sym q)
+
+pub asks-nothing-zuc-guard-rekey : (κs : Lfts 1) (a : ArgsD zuc-guard-rekey.signature κs) (w : World)
+    → zuc-guard-rekey.clauses (w .𝓤) (w .H) (w .𝓖 .A) (w .𝓜 .mem) (w .𝓡 .run) κs a .requires tt ≡ emp (w .𝓤)
+asks-nothing-zuc-guard-rekey κs a w = refl

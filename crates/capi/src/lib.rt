@@ -1,3 +1,4 @@
 // The exported C functions (include/zuc.h): states are arrays of numbers that the caller lends.
 pub mod generators;
+pub mod links;
 pub mod tags;

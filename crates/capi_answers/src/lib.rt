@@ -1,9 +1,12 @@
 // Document 01's number of each answer, and the word, count or tag that it holds: zeros, where it is a refusal.
 ghost use mathlib.Core.Path.{_≡_};
+ghost use Rattle.guard.specs.Outcome.{acceptNumber, rekeyNumber};
 ghost use Rattle.keystream.specs.Draws.{drawNumber, drawWord, fillNumber};
 ghost use Rattle.keystream.specs.Starts.{startNumber};
 ghost use Rattle.mac.specs.Calls.{onceTold-128, onceTold-256, tagList, tagNumber-128, tagNumber-256, tagWord, updateNumber};
 ghost use Rattle.mask.specs.Outcome.{countOf, numberOf};
+use guard::AcceptAnswer;
+use guard::RekeyAnswer;
 use keystream::DrawAnswer;
 use keystream::FillAnswer;
 use keystream::StartAnswer;
@@ -26,6 +29,12 @@ pub const BAD_IV: u32 = 3;
 pub const BAD_STATE: u32 = 4;
 
 pub const BAD_BITS: u32 = 5;
+
+pub const BAD_REUSE: u32 = 11;
+
+pub const BAD_AGE: u32 = 12;
+
+pub const BAD_LINK: u32 = 13;
 
 pub fn start_number(answer: StartAnswer) -> u32
     ensures { λ r. ⌜ r ≡ startNumber answer ⌝ }
@@ -179,5 +188,25 @@ pub fn once_words(answer: Once256) -> [u64; 2]
         Once256::BadKey => [0, 0],
         Once256::BadIv => [0, 0],
         Once256::BadBits => [0, 0],
+    }
+}
+
+pub fn accept_number(answer: AcceptAnswer) -> u32
+    ensures { λ r. ⌜ r ≡ acceptNumber answer ⌝ }
+{
+    match answer {
+        AcceptAnswer::Accepted => ACCEPTED,
+        AcceptAnswer::BadReuse => BAD_REUSE,
+        AcceptAnswer::BadAge => BAD_AGE,
+        AcceptAnswer::BadLink => BAD_LINK,
+    }
+}
+
+pub fn rekey_number(answer: RekeyAnswer) -> u32
+    ensures { λ r. ⌜ r ≡ rekeyNumber answer ⌝ }
+{
+    match answer {
+        RekeyAnswer::Rekeyed => ACCEPTED,
+        RekeyAnswer::BadLink => BAD_LINK,
     }
 }

@@ -56,7 +56,7 @@ links-back (y ∷ ys) = ap (λ (l : List declared.Link). y ∷ l) (links-back ys
 
 -- what is told tells what is returned, and the table
 module _ {A : Type 0} (numberOf : A → ℕ) (answerOf : ℕ → A) (back : (a : A) → answerOf (numberOf a) ≡ a) where
-  told-tight : (r r′ : A) (ys ys′ : List declared.Link)
+  pub told-tight : (r r′ : A) (ys ys′ : List declared.Link)
       → _≡_ {A = Guarded} (record { number = numberOf r; table = tableOf ys }) (record { number = numberOf r′; table = tableOf ys′ })
       → _≡_ {A = A × List declared.Link} (r, ys) (r′, ys′)
   told-tight r r′ ys ys′ e =
