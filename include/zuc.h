@@ -6,12 +6,13 @@
  * "Lending" below.
  *
  * ANSWERS. Every function returns 0 when it has done its work and otherwise the
- * number of the refusal, ZUC_BAD_WIDTH .. ZUC_BAD_BITS. Where several apply, the
- * lowest is given, so they are checked in the order of their numbers.
+ * number of a refusal. Where several apply, the one that is checked first is
+ * given: ZUC_BAD_WIDTH .. ZUC_BAD_BITS in the order of their numbers, those of a
+ * guard in the order ZUC_BAD_LINK, ZUC_BAD_AGE, ZUC_BAD_REUSE.
  *
  * REFUSALS ALTER NOTHING that a caller could go on with:
  *   - a state that was lent to a draw, mask, update or finish stays as it came,
- *     and so does every buffer, `out` of zuc_words included;
+ *     and so does every buffer, `out` of zuc_words included, and every link;
  *   - *word, *count, tag[0] and tag[1] are set to 0;
  *   - a start fills its state with zeros. Every later call refuses such a state
  *     (ZUC_BAD_STATE), so a start whose answer nobody looked at masks nothing.
@@ -23,14 +24,16 @@
  *
  * LENDING. A pointer with a length `n` is to n elements; it may be NULL if n is
  * 0. Every other pointer is to one object of the type shown and is not NULL.
- * What a function writes to (state, buf, out, word, count, tag) overlaps nothing
- * else that the same call is lent. Nothing is kept after a function returns.
+ * What a function writes to (state, buf, out, word, count, tag, links) overlaps
+ * nothing else that the same call is lent. Nothing is kept after a function
+ * returns.
  *
  * BITS. A bit length counts from the highest bit of the first byte. It may be
  * anything up to 8 times the bytes lent; one more is ZUC_BAD_BITS. The two are
  * compared as whole numbers: no length is too long to be compared rightly.
  *
- * THREADS. There is no shared state: calls on different states may run at once.
+ * THREADS. There is no shared state: calls on different states, and on different
+ * tables of links, may run at once.
  */
 #ifndef ZUC_H
 #define ZUC_H
@@ -48,12 +51,15 @@ extern "C" {
 /* Words of a tag's state. What stands where is the library's own affair. */
 #define ZUC_TAG_WORDS 19
 
-/* Refusals, in the order in which they are checked. */
+/* Refusals, in the order in which they are checked; the guard's own come last. */
 #define ZUC_BAD_WIDTH 1u /* the tag width is not 4, 8 or 16 bytes */
 #define ZUC_BAD_KEY 2u   /* the key is not 16 bytes, or 32 for ZUC-256 */
 #define ZUC_BAD_IV 3u    /* the IV is not 16 bytes, or 23 for ZUC-256 */
 #define ZUC_BAD_STATE 4u /* the state is malformed: refused, finished or spoilt */
 #define ZUC_BAD_BITS 5u  /* the bit length is more than 8 times the bytes lent */
+#define ZUC_BAD_LINK 13u /* no such link in the table */
+#define ZUC_BAD_AGE 12u  /* the COUNT is more than 63 below the highest */
+#define ZUC_BAD_REUSE 11u /* the COUNT was already accepted */
 
 /* ---------------------------------------------------------------------------
  * Generators. A state is malformed when one of its sixteen cells is outside
@@ -262,6 +268,55 @@ uint32_t zuc256_tag(size_t width,
                     const uint8_t *iv, size_t iv_len,
                     const uint8_t *msg, size_t len, size_t bits,
                     uint64_t tag[2]);
+
+/* ---------------------------------------------------------------------------
+ * A guard, so that no COUNT passes twice under one key: two blocks with one
+ * COUNT would share a keystream. The caller lends a table of links, one for each
+ * key, bearer and direction, since COUNT is counted apart in each.
+ *
+ * Over any calls on a table that began with fresh links: a COUNT is accepted
+ * exactly if the link is there, the COUNT is not more than 63 below the highest
+ * accepted on that link since it was last re-keyed (0 if none was), and it was
+ * not accepted there since. A call alters its own link alone. COUNT does not
+ * wrap: after 4294967295 a link must be re-keyed, and until then only counts
+ * from 4294967232 on pass, each once.
+ *
+ * ASK IT AFTER THE TAG IS CHECKED and before the body is used (tests/c/receive.c
+ * is an example to copy). Asked before, a forged COUNT would move the window, and
+ * good blocks would be refused; asked after the body is used, a block sent twice
+ * would be used twice.
+ * ------------------------------------------------------------------------- */
+
+/*
+ * A link. Zeros are a fresh one: highest 0, none accepted. Bit i of `accepted`
+ * says that COUNT highest - i was accepted.
+ *
+ * Any two numbers are taken as they are. A bit past bit `highest` would stand for
+ * a COUNT below 0: no answer depends on it, and an accepted COUNT clears it.
+ */
+struct zuc_link {
+    uint32_t highest;
+    uint64_t accepted;
+};
+
+/*
+ * Asks whether `count` may pass on links[at]; if so, that it has is noted there.
+ *
+ * Alters links[at] alone. Refuses with ZUC_BAD_LINK (at is not below len),
+ * ZUC_BAD_AGE, ZUC_BAD_REUSE, checked in this order: every link is then as it
+ * came. It loops over neither the table nor the window.
+ */
+uint32_t zuc_guard_accept(struct zuc_link *links, size_t len, size_t at,
+                          uint32_t count);
+
+/*
+ * Makes links[at] fresh again, for a new key. Under the old key it would let
+ * every COUNT pass once more.
+ *
+ * Alters links[at] alone. Refuses with ZUC_BAD_LINK: every link is then as it
+ * came.
+ */
+uint32_t zuc_guard_rekey(struct zuc_link *links, size_t len, size_t at);
 
 #ifdef __cplusplus
 }

@@ -296,6 +296,59 @@ static void refused_tags(void)
     CHECK(all_zero(tag));
 }
 
+/* Links are compared whole: a padding byte is nobody's. */
+static int link_is(const struct zuc_link *link, uint32_t highest, uint64_t accepted)
+{
+    return link->highest == highest && link->accepted == accepted;
+}
+
+/* The guard: a window that moves, each COUNT once, and nothing but its own link. */
+static void guarded(void)
+{
+    struct zuc_link links[3] = {{0, 0}, {0, 0}, {7, 0x81}};
+
+    CHECK(sizeof links[0] == 16);
+    /* a fresh link takes COUNT 0, once */
+    CHECK(zuc_guard_accept(links, 3, 1, 0) == 0 && link_is(&links[1], 0, 1));
+    CHECK(zuc_guard_accept(links, 3, 1, 0) == ZUC_BAD_REUSE && link_is(&links[1], 0, 1));
+    /* up by 63: COUNT 0 is still known; its neighbours inside pass once */
+    CHECK(zuc_guard_accept(links, 3, 1, 63) == 0);
+    CHECK(link_is(&links[1], 63, 0x8000000000000001));
+    CHECK(zuc_guard_accept(links, 3, 1, 0) == ZUC_BAD_REUSE);
+    CHECK(zuc_guard_accept(links, 3, 1, 1) == 0);
+    CHECK(zuc_guard_accept(links, 3, 1, 1) == ZUC_BAD_REUSE);
+    CHECK(link_is(&links[1], 63, 0xc000000000000001));
+    /* one more: COUNT 0 has left the window, and is too old before it is used */
+    CHECK(zuc_guard_accept(links, 3, 1, 64) == 0);
+    CHECK(link_is(&links[1], 64, 0x8000000000000003));
+    CHECK(zuc_guard_accept(links, 3, 1, 0) == ZUC_BAD_AGE);
+    CHECK(zuc_guard_accept(links, 3, 1, 1) == ZUC_BAD_REUSE);
+    /* by 64 and more: nothing of the old window stays */
+    CHECK(zuc_guard_accept(links, 3, 1, 128) == 0 && link_is(&links[1], 128, 1));
+    CHECK(zuc_guard_accept(links, 3, 1, 4294967295u) == 0);
+    CHECK(link_is(&links[1], 4294967295u, 1));
+    /* COUNT does not wrap */
+    CHECK(zuc_guard_accept(links, 3, 1, 0) == ZUC_BAD_AGE);
+    CHECK(zuc_guard_accept(links, 3, 1, 4294967231u) == ZUC_BAD_AGE);
+    CHECK(zuc_guard_accept(links, 3, 1, 4294967232u) == 0);
+    CHECK(zuc_guard_accept(links, 3, 1, 4294967295u) == ZUC_BAD_REUSE);
+    CHECK(link_is(&links[1], 4294967295u, 0x8000000000000001));
+    /* the neighbours are as they were, and no other link is there */
+    CHECK(link_is(&links[0], 0, 0) && link_is(&links[2], 7, 0x81));
+    CHECK(zuc_guard_accept(links, 3, 3, 0) == ZUC_BAD_LINK);
+    CHECK(zuc_guard_accept(links, 3, SIZE_MAX, 0) == ZUC_BAD_LINK);
+    CHECK(zuc_guard_rekey(links, 3, 3) == ZUC_BAD_LINK);
+    /* a re-keyed link is fresh again */
+    CHECK(zuc_guard_rekey(links, 3, 1) == 0 && link_is(&links[1], 0, 0));
+    CHECK(zuc_guard_accept(links, 3, 1, 0) == 0);
+    CHECK(link_is(&links[0], 0, 0) && link_is(&links[2], 7, 0x81));
+    /* bits past `highest` stand for nothing, and an accepted COUNT clears them */
+    links[0].accepted = 0xffffffffffffffff;
+    CHECK(zuc_guard_accept(links, 3, 0, 0) == ZUC_BAD_REUSE);
+    CHECK(link_is(&links[0], 0, 0xffffffffffffffff));
+    CHECK(zuc_guard_accept(links, 3, 0, 3) == 0 && link_is(&links[0], 3, 9));
+}
+
 /* NULL with length 0 is an empty slice, wherever a pointer has a length. */
 static void null_pointers(void)
 {
@@ -329,6 +382,9 @@ static void null_pointers(void)
     CHECK(zuc256_tag(8, zeros, 32, zeros, 23, NULL, 0, 0, other) == 0);
     CHECK(memcmp(tag, other, sizeof tag) == 0);
     CHECK(zuc256_tag(8, NULL, 0, NULL, 0, NULL, 0, 1, tag) == ZUC_BAD_KEY);
+
+    CHECK(zuc_guard_accept(NULL, 0, 0, 1) == ZUC_BAD_LINK);
+    CHECK(zuc_guard_rekey(NULL, 0, 0) == ZUC_BAD_LINK);
 }
 
 int main(void)
@@ -340,6 +396,7 @@ int main(void)
     refused_starts();
     refused_generators();
     refused_tags();
+    guarded();
     null_pointers();
     printf("header.c: %d checks, %d failed\n", checks, failures);
     return failures != 0;

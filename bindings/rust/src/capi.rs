@@ -31,7 +31,7 @@
 
 use crate::ffi;
 
-pub use crate::ffi::{State, TagState, STATE_WORDS, TAG_WORDS};
+pub use crate::ffi::{Link, State, TagState, STATE_WORDS, TAG_WORDS};
 
 /// Starts ZUC-128: 16 bytes of key, 16 of IV.
 /// [Refuses](crate::Refusal) by Key, Iv.
@@ -187,4 +187,18 @@ pub fn zuc256_tag(
     let (key, iv, msg) = (key.as_ptr(), iv.as_ptr(), msg.as_ptr());
     // SAFETY: see the top.
     unsafe { ffi::zuc256_tag(width, key, key_len, iv, iv_len, msg, len, bits, tag) }
+}
+
+/// Asks whether `count` may pass on `links[at]`, and if so notes there that it has.
+/// [Refuses](crate::Refusal) by Link, Age, Reuse, checked in this order.
+pub fn zuc_guard_accept(links: &mut [Link], at: usize, count: u32) -> u32 {
+    // SAFETY: see the top.
+    unsafe { ffi::zuc_guard_accept(links.as_mut_ptr(), links.len(), at, count) }
+}
+
+/// Makes `links[at]` fresh again, for a new key.
+/// [Refuses](crate::Refusal) by Link.
+pub fn zuc_guard_rekey(links: &mut [Link], at: usize) -> u32 {
+    // SAFETY: see the top.
+    unsafe { ffi::zuc_guard_rekey(links.as_mut_ptr(), links.len(), at) }
 }

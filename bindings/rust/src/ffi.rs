@@ -1,5 +1,5 @@
-//! The functions of include/zuc.h, as the linker finds them, and the arrays that
-//! they are lent. `capi` stands on this module and hands the arrays on.
+//! The functions of include/zuc.h, as the linker finds them, and the arrays and
+//! links that they are lent. `capi` stands on this module and hands them on.
 
 /// Numbers in a generator's state: `ZUC_STATE_WORDS` of zuc.h.
 pub const STATE_WORDS: usize = 18;
@@ -12,6 +12,20 @@ pub type State = [u32; STATE_WORDS];
 
 /// A tag's state.
 pub type TagState = [u64; TAG_WORDS];
+
+/// A link of a [`Guard`](crate::Guard)'s table: `struct zuc_link` of zuc.h.
+///
+/// Any two numbers are taken as they are. A bit past bit `highest` would stand for
+/// a COUNT below 0: no answer depends on it, and an accepted COUNT clears it.
+#[repr(C)]
+#[derive(Clone, Copy, Debug, Default, PartialEq, Eq, Hash)]
+pub struct Link {
+    /// The highest COUNT accepted, 0 if none was.
+    pub highest: u32,
+    /// Which of the 64 counts ending there were accepted: bit i for COUNT
+    /// `highest - i`.
+    pub accepted: u64,
+}
 
 #[rustfmt::skip]
 extern "C" {
@@ -32,4 +46,6 @@ extern "C" {
     pub fn zuc128_tag(key: *const u8, key_len: usize, iv: *const u8, iv_len: usize, msg: *const u8, len: usize, bits: usize, tag: &mut [u64; 2]) -> u32;
     pub fn eia3_tag(count: u32, bearer: u8, direction: u8, key: *const u8, key_len: usize, msg: *const u8, len: usize, bits: usize, tag: &mut [u64; 2]) -> u32;
     pub fn zuc256_tag(width: usize, key: *const u8, key_len: usize, iv: *const u8, iv_len: usize, msg: *const u8, len: usize, bits: usize, tag: &mut [u64; 2]) -> u32;
+    pub fn zuc_guard_accept(links: *mut Link, len: usize, at: usize, count: u32) -> u32;
+    pub fn zuc_guard_rekey(links: *mut Link, len: usize, at: usize) -> u32;
 }

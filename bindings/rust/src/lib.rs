@@ -9,7 +9,10 @@ pub mod zuc256;
 
 mod ffi;
 mod generator;
+mod guard;
 mod refusal;
 mod tag;
 
+pub use ffi::Link;
+pub use guard::Guard;
 pub use refusal::Refusal;

@@ -2,8 +2,9 @@
 
 use core::fmt;
 
-/// Why a call was refused. Where several reasons apply, the one with the lowest
-/// number is given.
+/// Why a call was refused. Where several reasons apply, the one that is checked
+/// first is given: of the first five the one with the lowest number, of the
+/// [`Guard`](crate::Guard)'s `Link`, `Age`, `Reuse` in this order.
 #[derive(Clone, Copy, Debug, PartialEq, Eq, Hash)]
 pub enum Refusal {
     /// The tag width is not 4, 8 or 16 bytes.
@@ -16,10 +17,25 @@ pub enum Refusal {
     State = 4,
     /// The bit length is more than 8 times the bytes given.
     Bits = 5,
+    /// There is no such link.
+    Link = 13,
+    /// The COUNT is more than 63 below the link's highest.
+    Age = 12,
+    /// The COUNT was already accepted.
+    Reuse = 11,
 }
 
 impl Refusal {
-    const ALL: [Self; 5] = [Self::Width, Self::Key, Self::Iv, Self::State, Self::Bits];
+    const ALL: [Self; 8] = [
+        Self::Width,
+        Self::Key,
+        Self::Iv,
+        Self::State,
+        Self::Bits,
+        Self::Link,
+        Self::Age,
+        Self::Reuse,
+    ];
 
     /// The number that the C interface answers.
     #[must_use]
@@ -33,7 +49,8 @@ impl Refusal {
     /// The refusal, unless the answer is 0.
     ///
     /// # Panics
-    /// If the answer is none of 0..=5, which no function of the library answers.
+    /// If the answer is neither 0 nor a refusal's number, which no function of the
+    /// library answers.
     pub fn check(answer: u32) -> Result<(), Self> {
         if answer == 0 {
             return Ok(());
@@ -56,6 +73,9 @@ impl fmt::Display for Refusal {
             Self::Iv => "the IV has the wrong length",
             Self::State => "the state is malformed or the tag is closed",
             Self::Bits => "the bit length is more than 8 times the bytes given",
+            Self::Link => "there is no such link",
+            Self::Age => "the COUNT is more than 63 below the highest",
+            Self::Reuse => "the COUNT was already accepted",
         })
     }
 }
