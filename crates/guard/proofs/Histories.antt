@@ -10,9 +10,9 @@ use mathlib.Core.Logic.{⊎-elim}
 use mathlib.Core.Path.{_≡_, ap, refl, subst, sym, _∙_}
 use native.Mathlib.Nat.{le-max-left, le-max-right}
 use native.Mathlib.Omega.{arith}
-use Prim.Native.Nat.{ℕ, _-_, _<_, _≤_, max}
+use Prim.Native.Nat.{ℕ, _-_, _<_, max}
 use Rattle.guard.specs.Outcome.{Guarded, acceptOutcome, acceptedCall, countTests, linkAt, refusedCall, rekeyOutcome}
-use Rattle.guard.specs.Runs.{Accept, Call, Calls, Rekey, accept, among, highestOf, none, rekey, since}
+use Rattle.guard.specs.Runs.{Call, Calls, accept, among, highestOf, none, rekey, since}
 use Rattle.standard.proofs.Each.{place}
 use Rattle.standard.proofs.Guard.{fresh-over, knows-above, knows-over, over-on}
 use Rattle.standard.proofs.Tested.{AllPass, Numbered, decided, passed}

@@ -1,4 +1,5 @@
 pub mod Tables
+mod Lying
 mod Rows
 mod Stepping
 mod Histories

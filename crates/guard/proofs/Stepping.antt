@@ -6,7 +6,7 @@ use mathlib.Core.Path.{_≡_, ap, refl, subst, sym, _∙_}
 use native.Mathlib.Nat.{one-mul, pow-succ'}
 use native.Mathlib.Omega.{arith}
 use Prim.Native.Nat.{ℕ, suc, _+_, _-_, _*_, _%_, _^_, _<_, _≤_}
-use Rattle.guard.specs.Inner.{StepOutcome, standingBits, stepOutcome}
+use Rattle.guard.specs.Inner.{standingBits, stepOutcome}
 use Rattle.standard.proofs.Guard.{accepting-above, accepting-inside, accepting-lt, knows-above, standing-knows}
 use Rattle.standard.specs.Guard.{Link, accepting, isSet, knows}
 use Rattle.standard.specs.Refusals.{accepted, badAge, badReuse, tested}

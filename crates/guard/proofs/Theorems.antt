@@ -1,21 +1,20 @@
 -- Over any calls on a table of fresh links: what is answered to a COUNT, by what was answered before; so no COUNT passes twice between two
 -- re-keyings, and none is refused that should pass. And a call alters its own link alone, in any table. By the links' histories.
-use borrow.Author.Tests.{eq-eqb, eqb-true, le-leb, le-ltb, leb-true, lt-leb, lt-ltb, ltb-true, ne-eqb, not-true}
-use lib.Dec.{eqb, leb, lit<, ltb}
+use borrow.Author.Tests.{eq-eqb, le-leb, le-ltb, leb-true, lt-leb, lt-ltb, ltb-true, ne-eqb, not-true}
+use lib.Dec.{eqb, lit<}
 use lib.ListN.{length, length-set, replicate}
 use lib.Seq.{getD-set-other}
-use mathlib.Core.Bool.{Bool, true, false, _&&_, _||_, not, and-false, false≢true, or-true}
+use mathlib.Core.Bool.{Bool, true, false, _&&_, not, false≢true, or-true}
 use mathlib.Core.List.{List, [], _∷_, _++_}
 use mathlib.Core.Logic.{⊎-elim}
-use mathlib.Core.Path.{_≡_, ap, refl, subst, sym, _∙_}
-use native.Mathlib.Nat.{le-max-left, le-max-right}
+use mathlib.Core.Path.{_≡_, ap, refl, sym, _∙_}
 use native.Mathlib.Omega.{arith}
 use Prim.Native.Nat.{ℕ, _+_, _-_, _<_, _≤_}
 use Rattle.guard.proofs.Histories.{among-above, calls-held, held, held-knows}
 use Rattle.guard.specs.Outcome.{Guarded, acceptOutcome, acceptedCall, countTests, linkAt, refusedCall, rekeyOutcome}
 use Rattle.guard.specs.Runs.{Accept, Call, Calls, Elsewhere, NotRekeyed, Rekey, accept, among, highestOf, historyTests, none, rekey, since}
 use Rattle.standard.proofs.Each.{place}
-use Rattle.standard.proofs.Tested.{AllPass, Numbered, accepted-passed, decided, passed, tested-map}
+use Rattle.standard.proofs.Tested.{Numbered, accepted-passed, decided, passed, tested-map}
 use Rattle.standard.specs.Guard.{Link, accepting, fresh, knows, linkOver}
 use Rattle.standard.specs.Notation.{if_then_else_}
 use Rattle.standard.specs.Refusals.{Test, accepted, ageTest, linkTest, reuseTest, tested}

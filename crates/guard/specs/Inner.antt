@@ -1,5 +1,4 @@
 -- What the inner functions promise: a link by value, without its table.
-use mathlib.Core.List.{List}
 use Prim.Native.Nat.{ℕ}
 use Rattle.guard.specs.Outcome.{acceptNumber, countTests, linkOf}
 use Rattle.guard.specs.declared.Stepped.{Stepped}

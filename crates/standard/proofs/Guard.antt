@@ -7,9 +7,9 @@ use Prim.Native.Nat.{ℕ, zero, suc, _+_, _-_, _*_, _/_, _%_, _^_, _<_, _≤_, m
 use native.Mathlib.Nat.{add-mul, add-suc, add-zero, max-eq-left, max-eq-right, mod-eq-of-lt, mod-lt, mod-one, mul-assoc, mul-comm, mul-mod-left, not-suc-le-zero, one-mul, two-pow-succ, zero-mul}
 use native.Mathlib.Omega.{arith}
 use lib.Arith.{digits-mod}
-use lib.Dec.{eqb, leb, ltb}
-use lib.Pow.{high, low, mod-pow-add, pow-add, pow-pos, shl-lt}
-use borrow.Author.Tests.{eq-eqb, le-leb, le-ltb, lt-leb, lt-ltb, ne-eqb}
+use lib.Dec.{eqb, leb}
+use lib.Pow.{high, low, mod-pow-add, pow-add, shl-lt}
+use borrow.Author.Tests.{eq-eqb, le-leb, lt-leb, lt-ltb, ne-eqb}
 use Rattle.standard.specs.Guard.{Link, accepting, fresh, gathered, isSet, knows, linkOver, windowCounts}
 use Rattle.standard.specs.Notation.{if_then_else_}
 use Rattle.standard.proofs.Each.{place}

@@ -1,9 +1,9 @@
 -- `standing` keeps the bits up to bit `highest`: a remainder by a power of two, where there are fewer than 64.
 use borrow.Author.Needs.{needs}
 use lib.Pow.{pow-pos}
-use mathlib.Core.Path.{_∙_, ap, sym}
+use mathlib.Core.Path.{_∙_, ap, subst, sym}
 use native.Mathlib.Omega.{arith}
-use Prim.Native.Nat.{ℕ, suc, _%_}
+use Prim.Native.Nat.{ℕ, suc, _%_, _<_}
 use Rattle.guard.proofs.standing.Statement.{statement}
 use Rattle.guard.proofs.standing.Tie as tie
 use Rattle.guard.proofs.Stepping.{two-shifted}
@@ -11,7 +11,7 @@ use Rattle.guard.specs.Outcome.{linkOf}
 use Rattle.standard.proofs.Guard.{standing-high, standing-low}
 
 rem-result : tie.Need-rem-result
-rem-result c = let l = c .before .args .l in rw (two-shifted (l .highest) (omega arith)) (pow-pos (suc (l .highest)))
+rem-result c = let l = c .before .args .l in subst (λ (x : ℕ). 0 < x) (sym (two-shifted (l .highest) (omega arith))) (pow-pos (suc (l .highest)))
 
 returns : tie.Need-returns
 returns c =

@@ -2,13 +2,13 @@
 use borrow.Author.Needs.{needs}
 use borrow.Author.Tests.{eq-eqb, ne-eqb}
 use mathlib.Core.Bool.{true, false}
-use mathlib.Core.Path.{_≡_, _∙_, ap, subst, sym}
+use mathlib.Core.Path.{_≡_, _∙_, ap, ap₂, subst, sym}
 use native.Mathlib.Omega.{arith}
 use Prim.Native.Nat.{ℕ, _+_, _-_, _*_, _/_, _%_, _^_, _<_}
 use Rattle.guard.proofs.step.Statement.{statement}
 use Rattle.guard.proofs.step.Tie as tie
 use Rattle.guard.proofs.Stepping.{above-fits, above-is, again-is, inside-fits, inside-is, old-is, one-shifted}
-use Rattle.guard.specs.Inner.{StepOutcome, standingBits}
+use Rattle.guard.specs.Inner.{standingBits}
 use Rattle.guard.specs.Outcome.{linkOf}
 use Rattle.standard.specs.Guard.{isSet}
 use Rattle.standard.specs.Refusals.{accepted}
@@ -50,7 +50,7 @@ add-t15 c =
     let s = c .before .before .before .standing in
     let back = a .l .highest - a .count in
     record {
-      fits = rw (one-shifted back (omega arith), s .ensures)
+      fits = subst (λ (x : ℕ). x < 2 ^ 64) (sym (ap₂ (λ (x y : ℕ). x + y) (s .ensures) (one-shifted back (omega arith))))
           (inside-fits (linkOf (a .l)) (a .count) (omega arith) (omega arith) (not-set (s .result) (standingBits (linkOf (a .l))) back (s .ensures) (c .if3 .left)));
     }
 
@@ -59,8 +59,8 @@ returns-4 c =
     let a = c .before .before .before .before .args in
     let s = c .before .before .before .standing in
     let back = a .l .highest - a .count in
-    rw (one-shifted back (omega arith), s .ensures)
-    (inside-is (linkOf (a .l)) (a .count) (omega arith) (omega arith) (not-set (s .result) (standingBits (linkOf (a .l))) back (s .ensures) (c .if3 .left)))
+    ap₂ (λ (x y : ℕ). record { number = accepted; link = record { highest = a .l .highest; accepted = x + y } }) (s .ensures) (one-shifted back (omega arith))
+    ∙ inside-is (linkOf (a .l)) (a .count) (omega arith) (omega arith) (not-set (s .result) (standingBits (linkOf (a .l))) back (s .ensures) (c .if3 .left))
 
 pub step-spec : {M : Type 1} → statement M
 step-spec =
