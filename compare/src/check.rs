@@ -6,6 +6,7 @@ use yegetmur::capi::{self, State, TagState, STATE_WORDS, TAG_WORDS};
 
 use crate::input::{Call, Input, Mode, Start, Tagger};
 use crate::quiet::caught;
+use crate::report::Trial;
 use crate::rules::{bits_refusal, first, start_refusal, well_formed, BAD_STATE};
 use crate::users::{with_crate, with_port};
 use crate::{layout, model, original, port};
@@ -21,6 +22,12 @@ const MODEL_BYTES: usize = 64;
 
 /// Bytes around a lent buffer that no call may touch.
 const MARGIN: usize = 16;
+
+impl Trial for Input {
+    fn verdict(&self) -> Verdict {
+        check(self)
+    }
+}
 
 pub fn check(input: &Input) -> Verdict {
     match input.call {

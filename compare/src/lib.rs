@@ -4,6 +4,9 @@
 //! on the crate, on the port through its Rust package, and on the port through its C
 //! interface, and says the first thing that differs. [`plan`] says which inputs are
 //! tried; [`shrink`] makes a failing one small.
+//!
+//! The guard is not the crate's: a [`walk::Walk`] is a list of calls on one table, held
+//! to a model of sets; [`walks`] says which are tried.
 
 pub mod check;
 pub mod clock;
@@ -22,6 +25,8 @@ pub mod rng;
 pub mod rules;
 pub mod shrink;
 pub mod users;
+pub mod walk;
+pub mod walks;
 
 /// Which library is linked.
 pub fn library() -> &'static str {

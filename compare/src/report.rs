@@ -1,12 +1,17 @@
 //! What is tried and what came of it: a line while it runs, a table at the end.
 
+use std::fmt::Display;
 use std::io::{stderr, IsTerminal, Write};
 use std::time::{Duration, Instant};
 
-use crate::check::check;
-use crate::input::Input;
+use crate::check::Verdict;
 use crate::quiet::caught;
-use crate::shrink::{shrink, size};
+use crate::shrink::{shrink, Shrinks};
+
+/// One input, with all that is compared for it.
+pub trait Trial: Shrinks + Display {
+    fn verdict(&self) -> Verdict;
+}
 
 struct Section {
     name: &'static str,
@@ -15,23 +20,23 @@ struct Section {
     took: Duration,
 }
 
-pub struct Report {
+pub struct Report<T> {
     sections: Vec<Section>,
-    smallest: Option<Input>,
+    smallest: Option<T>,
     begun: Instant,
     section_begun: Instant,
     line_at: Instant,
 }
 
 /// What differs for an input: a panic of the driver or the package is a difference too.
-fn difference(input: &Input) -> Option<String> {
-    match caught(|| check(input)) {
+fn difference(input: &impl Trial) -> Option<String> {
+    match caught(|| input.verdict()) {
         Some(verdict) => verdict.err(),
         None => Some("a panic where none is due".into()),
     }
 }
 
-impl Report {
+impl<T: Trial> Report<T> {
     #[expect(clippy::new_without_default, reason = "it begins to measure")]
     pub fn new() -> Self {
         let now = Instant::now();
@@ -49,14 +54,14 @@ impl Report {
     }
 
     /// Tries one input within the section begun last.
-    pub fn try_input(&mut self, input: Input) {
+    pub fn try_input(&mut self, input: T) {
         let failed = difference(&input).is_some();
         let section = self.sections.last_mut().expect("a section has begun");
         section.inputs += 1;
         section.took = self.section_begun.elapsed();
         if failed {
             section.differences += 1;
-            if self.smallest.as_ref().is_none_or(|smallest| size(&input) < size(smallest)) {
+            if self.smallest.as_ref().is_none_or(|smallest| input.size() < smallest.size()) {
                 self.smallest = Some(input);
             }
         }
@@ -108,7 +113,7 @@ impl Report {
             println!("no difference");
             return true;
         };
-        let smallest = shrink(failing, |input| difference(input).is_some());
+        let smallest = shrink(failing, |input: &T| difference(input).is_some());
         println!("\nthe smallest input that fails:\n  {smallest}");
         println!("  {}", difference(&smallest).expect("a failing input"));
         false

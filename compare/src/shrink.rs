@@ -2,30 +2,43 @@
 
 use crate::input::Input;
 
-/// By which of two inputs is called the smaller.
-pub fn size(input: &Input) -> (usize, usize, usize, u64) {
-    let bytes = [&input.key, &input.iv, &input.data];
-    let ones = bytes.iter().flat_map(|list| list.iter()).map(|byte| byte.count_ones());
-    let fields = input.count.count_ones() + u32::from(input.bearer) + u32::from(input.direction);
-    (
-        input.data.len() + input.words,
-        input.cuts.len(),
-        input.bits,
-        u64::from(ones.sum::<u32>() + fields),
-    )
+/// What can be made smaller step by step.
+pub trait Shrinks: Clone {
+    /// By which of two is called the smaller.
+    fn size(&self) -> (usize, usize, usize, u64);
+
+    /// Those one step away, the boldest first.
+    fn steps(&self) -> Vec<Self>;
 }
 
 /// Goes from smaller to smaller input for as long as one of them fails.
-pub fn shrink(mut input: Input, fails: impl Fn(&Input) -> bool) -> Input {
+pub fn shrink<T: Shrinks>(mut input: T, fails: impl Fn(&T) -> bool) -> T {
     while let Some(next) =
-        steps(&input).into_iter().find(|next| size(next) < size(&input) && fails(next))
+        input.steps().into_iter().find(|next| next.size() < input.size() && fails(next))
     {
         input = next;
     }
     input
 }
 
-/// Inputs one step away, the boldest first.
+impl Shrinks for Input {
+    fn size(&self) -> (usize, usize, usize, u64) {
+        let bytes = [&self.key, &self.iv, &self.data];
+        let ones = bytes.iter().flat_map(|list| list.iter()).map(|byte| byte.count_ones());
+        let fields = self.count.count_ones() + u32::from(self.bearer) + u32::from(self.direction);
+        (
+            self.data.len() + self.words,
+            self.cuts.len(),
+            self.bits,
+            u64::from(ones.sum::<u32>() + fields),
+        )
+    }
+
+    fn steps(&self) -> Vec<Self> {
+        steps(self)
+    }
+}
+
 fn steps(input: &Input) -> Vec<Input> {
     let mut steps = Vec::new();
     let mut push = |change: &dyn Fn(&mut Input)| {

@@ -20,6 +20,8 @@ RIGHT(zuc128_tag_finish);
 RIGHT(zuc256_tag_finish);
 RIGHT(zuc128_tag);
 RIGHT(zuc256_tag);
+RIGHT(zuc_guard_accept);
+RIGHT(zuc_guard_rekey);
 
 #if FAULT == 1 || FAULT == 3 || FAULT == 17
 uint32_t zuc_mask_crate(uint32_t state[ZUC_STATE_WORDS],
@@ -217,5 +219,82 @@ uint32_t eia3_tag_start(uint64_t state[ZUC_TAG_WORDS], uint32_t count, uint8_t b
     iv_of(iv, count, (uint8_t)(bearer << 3));
     iv[8] ^= (uint8_t)(direction << 7);
     return zuc128_tag_start(state, key, key_len, iv, 16);
+}
+#endif
+
+#if FAULT >= 19 && FAULT <= 28
+uint32_t zuc_guard_accept(struct zuc_link *links, size_t len, size_t at, uint32_t count)
+{
+    struct zuc_link before = {0, 0};
+    if (at < len)
+        before = links[at];
+
+    /* fault 19: a place is cut to 32 bits */
+    if (FAULT == 19)
+        return right_zuc_guard_accept(links, len, (uint32_t)at, count);
+
+    uint32_t refusal = right_zuc_guard_accept(links, len, at, count);
+    if (at >= len)
+        return refusal;
+    uint32_t back = before.highest - count, up = count - before.highest;
+
+    /* fault 20: a window of 63 counts */
+    if (FAULT == 20 && count < before.highest && back == 63) {
+        links[at] = before;
+        return ZUC_BAD_AGE;
+    }
+
+    /* fault 21: a window of 65 counts: one more passes below it */
+    if (FAULT == 21 && count < before.highest && back == 64)
+        return 0;
+
+    /* fault 22: a window that moves up is shifted by one too many */
+    if (FAULT == 22 && refusal == 0 && count > before.highest)
+        links[at].accepted = (links[at].accepted - 1) << 1 | 1;
+
+    /* fault 23: a COUNT that has left the window is called used before it is called old */
+    if (FAULT == 23 && refusal == ZUC_BAD_AGE && before.highest - count == 64)
+        return ZUC_BAD_REUSE;
+
+    /* fault 24: the next link is altered, too */
+    if (FAULT == 24 && refusal == 0 && at + 1 < len)
+        links[at + 1].highest = links[at].highest;
+
+    /* fault 25: a refused COUNT moves the window */
+    if (FAULT == 25 && refusal == ZUC_BAD_AGE)
+        links[at].highest = count;
+
+    /* fault 26: 64 or more ahead, the old window stays */
+    if (FAULT == 26 && refusal == 0 && count > before.highest && up >= 64)
+        links[at].accepted = before.accepted | 1;
+
+    /* fault 27: COUNT wraps: after the last one the first ones pass again */
+    if (FAULT == 27 && refusal == ZUC_BAD_AGE && up < 64) {
+        links[at].highest = count;
+        links[at].accepted = before.accepted << up | 1;
+        return 0;
+    }
+
+    /* fault 28: a COUNT inside the window passes and is not noted */
+    if (FAULT == 28 && refusal == 0 && count < before.highest)
+        links[at] = before;
+    return refusal;
+}
+#endif
+
+#if FAULT == 29 || FAULT == 30
+uint32_t zuc_guard_rekey(struct zuc_link *links, size_t len, size_t at)
+{
+    uint32_t highest = at < len ? links[at].highest : 0;
+    uint32_t refusal = right_zuc_guard_rekey(links, len, at);
+
+    /* fault 29: a re-keyed link keeps its highest COUNT */
+    if (FAULT == 29 && refusal == 0)
+        links[at].highest = highest;
+
+    /* fault 30: a re-keyed link takes COUNT 0 for accepted */
+    if (FAULT == 30 && refusal == 0)
+        links[at].accepted = 1;
+    return refusal;
 }
 #endif

@@ -1,4 +1,5 @@
-//! Feeds the crate and the port the same inputs:
+//! Feeds the crate and the port the same inputs, and the port's guard and a model of sets
+//! the same calls:
 //! `driver [--long MINUTES] [--seed SEED] [--stop]`.
 //! Exits with 1 if anything differs, with 2 if it is called wrongly.
 
@@ -6,9 +7,12 @@ use std::env::args;
 use std::process::exit;
 use std::time::{Duration, SystemTime, UNIX_EPOCH};
 
+use compare::input::Input;
 use compare::plan::{self, SECTIONS};
 use compare::report::Report;
 use compare::rng::Rng;
+use compare::walk::Walk;
+use compare::walks::{self, WALKS};
 
 struct Options {
     /// How long random inputs go on after the quick part.
@@ -21,8 +25,13 @@ struct Options {
 fn main() {
     let options = options();
     println!("zuc 0.4.1 and {}; seed {}", compare::library(), options.seed);
+    // the guard first: it is quick
+    let guarded = guard(&mut Rng::new(options.seed), &options);
+    if options.stop && !guarded {
+        exit(1);
+    }
     let mut rng = Rng::new(options.seed);
-    let mut report = Report::new();
+    let mut report = Report::<Input>::new();
     for (name, inputs) in SECTIONS {
         report.section(name);
         inputs(&mut rng, &mut |input| report.try_input(input));
@@ -38,7 +47,28 @@ fn main() {
             report.try_input(plan::random(&mut rng, log));
         }
     }
-    exit(i32::from(!report.end(options.seed)));
+    let same = report.end(options.seed);
+    exit(i32::from(!(guarded && same)));
+}
+
+/// The guard, by walks over tables of links; answers whether all was the same.
+fn guard(rng: &mut Rng, options: &Options) -> bool {
+    let mut report = Report::<Walk>::new();
+    for (name, inputs) in WALKS {
+        report.section(name);
+        inputs(rng, &mut |walk| report.try_input(walk));
+        if options.stop && report.differences() > 0 {
+            break;
+        }
+    }
+    if !options.long.is_zero() {
+        report.section("guard: random walks, a tenth of the time asked");
+        let end = report.elapsed() + options.long / 10;
+        while report.elapsed() < end {
+            report.try_input(walks::random(rng));
+        }
+    }
+    report.end(options.seed)
 }
 
 fn options() -> Options {
