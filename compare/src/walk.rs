@@ -193,7 +193,7 @@ impl fmt::Display for Walk {
     fn fmt(&self, f: &mut fmt::Formatter<'_>) -> fmt::Result {
         let fresh = self.links.iter().all(|&link| link == Link::default());
         match (fresh, self.links.len()) {
-            (true, n) => write!(f, "{n} fresh links:")?,
+            (true, n) => write!(f, "a table of {n}, fresh:")?,
             (false, _) => write!(f, "links {:?}:", self.links)?,
         }
         for call in &self.calls {

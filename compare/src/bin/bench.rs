@@ -14,6 +14,7 @@ use compare::clock::thread_time;
 use compare::library;
 use compare::plot::{plot, Curve};
 use compare::rng::Rng;
+use yegetmur::{Guard, Link};
 
 /// Bytes of a message or a buffer.
 const SIZES: [usize; 6] = [16, 64, 256, 1 << 10, 1 << 16, 1 << 20];
@@ -87,6 +88,7 @@ fn main() {
     let mut buffers = Buffers { bytes: Rng::new(1).bytes(1 << 20), words: vec![0; 1 << 18] };
     let curves = all_sizes(options.rounds, &mut buffers);
     single_draw(options.rounds, &mut buffers);
+    guard_call(options.rounds, &mut buffers);
     if let Some(file) = options.svg {
         fs::write(&file, plot(&SIZES, &curves, &machine())).unwrap_or_else(|error| {
             eprintln!("{file}: {error}");
@@ -146,6 +148,26 @@ fn single_draw(rounds: usize, buffers: &mut Buffers) {
     let (crate_ns, port_ns) = least(rounds, buffers, 4, original, port);
     println!("{:<24} {:>8} {:>11} {:>11} {:>7}", "", "bytes", "crate ns", "port ns", "ratio");
     row("one draw, in place", 4, crate_ns, port_ns);
+}
+
+/// What the crate has not, beside a draw of the port: a COUNT asked of the guard, new or
+/// seen, on each link of a table in turn.
+fn guard_call(rounds: usize, buffers: &mut Buffers) {
+    let mut port_zuc = on_port::Zuc128Keystream::new(&KEY, &KEY);
+    let draw: Work = &mut |_, _| {
+        black_box(black_box(&mut port_zuc).generate());
+    };
+    let mut links = vec![Link::default(); 1000];
+    let mut guard = Guard::new(&mut links);
+    let (mut at, mut count) = (0, 0u32);
+    let accept: Work = &mut |_, _| {
+        at = if at == 999 { 0 } else { at + 1 };
+        count = count.wrapping_add(u32::from(at == 0));
+        _ = black_box(black_box(&mut guard).accept(at, count & !1));
+    };
+    let (draw_ns, accept_ns) = least(rounds, buffers, 4, draw, accept);
+    println!("{:<24} {:>8} {:>11} {:>11} {:>7}", "", "links", "draw ns", "accept ns", "ratio");
+    row("one COUNT, guarded", 1000, draw_ns, accept_ns);
 }
 
 /// Nanoseconds of one run on each side: the least of all rounds, turn about.
