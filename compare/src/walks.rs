@@ -16,18 +16,16 @@ pub const WALKS: [(&str, Walks); 6] = [
     ("guard: two counts, every distance 0 to 70", distances),
     ("guard: any link, every distance 0 to 70", lent_links),
     ("guard: places at and past the end", places),
-    ("guard: random links, one call", random_links),
+    ("guard: random links, two calls", random_links),
     ("guard: random walks, 0 to 300 links", random_walks),
 ];
 
 const LAST: u32 = u32::MAX;
 
-/// Distances about the window's ends: to 70 on either side of its highest COUNT, and of
-/// the one 63 below.
+/// Distances about the window's ends: from 70 below its lowest COUNT, which is 63 below
+/// the highest, to 70 above the highest.
 fn about(highest: u32) -> impl Iterator<Item = u32> {
-    let near = |end: i64| (-70..=70).map(move |d| end + d);
-    let highest = i64::from(highest);
-    near(highest).chain(near(highest - 63)).filter_map(|n| u32::try_from(n).ok())
+    (-133..=70).filter_map(move |d| u32::try_from(i64::from(highest) + d).ok())
 }
 
 fn fresh(n: usize) -> Vec<Link> {
