@@ -1,5 +1,5 @@
--- An array of links in a local, as what can be lent as a `&mut [Link]`: the local's cell is its elements, side by side, and the other way round.
---     rowed n ys       the one machine value of the array
+-- An array of links in a local can be lent as a slice of links, and taken back: its cell is the links side by side.
+--     rowed            the one machine value of the array
 --     cells-of         the cell of a local that holds the array ys  ⊢  the links ys lie there
 --     array-of         the links ys lie there, and there are n  ⊢  the array is well formed, and the local's cell holds it
 --     as-field         an array that is well formed by itself is so as a field of a struct, where the links stand as tuples

@@ -1,5 +1,5 @@
--- `guard::accept` meets its contract: a walk of its MIR, by hand. The borrow of the slice is opened, the element is taken out of the row, copied whole and handed to `step`; the link that `step` returned is stored whole where the element lies, and put back into the row, which closes the borrow at `set`.
--- All that the proof knows of `step` is that it meets its contract.
+-- `accept` is the outcome of a COUNT, by a walk of its code: the borrow of the table is opened, the link is taken out and handed to `step`, and
+-- what that returned is stored in its place, which closes the borrow at `set`. All that is known of `step` is its contract.
 use mathlib.Core.Path.{_≡_, refl, sym, ap, subst}
 use Prim.Native.Nat.{ℕ, _<_, _≤_, _^_}
 use mathlib.Core.Bool.{not}

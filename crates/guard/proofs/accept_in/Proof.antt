@@ -1,5 +1,5 @@
--- `guard::accept_in` meets its contract: a walk of its MIR, by hand. The table is put into a local, which is lent to `accept` as a slice for a lifetime that is made for the call; when that is over the local holds the table that `accept` left, and the two are put together.
--- All that the proof knows of `accept` is that it meets its contract.
+-- `accept_in` is the outcome of a COUNT on a table by value, by a walk of its code: the table is put into a local, which is lent to `accept` for a
+-- lifetime made for the call, and taken back when that is over. All that is known of `accept` is its contract.
 use mathlib.Core.Path.{_≡_, refl, sym, ap, subst, _∙_}
 use Prim.Native.Nat.{ℕ, _<_, _^_}
 use mathlib.Core.List.{[], _∷_, List}

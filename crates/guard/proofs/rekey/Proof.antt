@@ -1,4 +1,5 @@
--- `guard::rekey` meets its contract: a walk of its MIR, by hand. The borrow of the slice is opened, the element is taken out of the row, a fresh link is stored whole where it lies, and put back into the row, which closes the borrow at `set`.
+-- `rekey` is the outcome of a re-keying, by a walk of its code: the borrow of the table is opened, a fresh link is stored in the place of the one
+-- that lies there, and the borrow is closed at `set`.
 use mathlib.Core.Path.{_≡_, refl, sym, ap, subst}
 use Prim.Native.Nat.{ℕ, _<_, _≤_, _^_}
 use mathlib.Core.Bool.{not}
