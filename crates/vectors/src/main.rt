@@ -82,6 +82,32 @@ fn called(
     p
 }
 
+// Both arrays saved, or put back; or else a call.
+fn on_arrays(
+    line: &[u8],
+    at: usize,
+    progress: Progress,
+    g: &mut Generator,
+    t: &mut TagArray,
+) -> Progress {
+    if fits(line, b"save") {
+        let mut p = progress;
+        let generator = *g;
+        let tag = *t;
+        p.generator = generator;
+        p.tag = tag;
+        return p;
+    }
+    if fits(line, b"load") {
+        let generator = progress.generator;
+        let tag = progress.tag;
+        *g = generator;
+        *t = tag;
+        return progress;
+    }
+    called(line, at, progress, g, t)
+}
+
 // A line with what is repeated in it written out.
 fn stepped(
     script: &[u8],
@@ -106,22 +132,7 @@ fn stepped(
         p.kept = got;
         return p;
     }
-    if fits(line, b"save") {
-        let mut p = progress;
-        let generator = *g;
-        let tag = *t;
-        p.generator = generator;
-        p.tag = tag;
-        return p;
-    }
-    if fits(line, b"load") {
-        let generator = progress.generator;
-        let tag = progress.tag;
-        *g = generator;
-        *t = tag;
-        return progress;
-    }
-    called(line, at, progress, g, t)
+    on_arrays(line, at, progress, g, t)
 }
 
 // The line at a place: comments and empty lines are passed over, and a name is shown. One that fills the room, and may be cut, is taken
