@@ -23,10 +23,13 @@ use capi::tags::zuc256_tag_finish;
 use capi::tags::zuc256_tag_start;
 use capi::tags::zuc256_tag_update;
 use capi_answers::ACCEPTED;
+use capi_answers::accept_number;
 use capi_answers::draw_number;
 use capi_answers::draw_word;
 use capi_arrays::array_of;
 use capi_arrays::state_in;
+use guard::Link;
+use guard::accept_in;
 use vectors_parts::front;
 use vectors_parts::least;
 use vectors_parts::put;
@@ -208,6 +211,29 @@ fn set(kind: usize, at: usize, word: u64, g: &mut Generator, t: &mut TagArray) -
     false
 }
 
+// Kind 24, a COUNT held against a table of four like links: the number, and the four as they then are, so that a neighbour that was altered
+// shows.
+fn guarded(n: [u64; 4], out: &mut [u8]) -> usize {
+    let l = Link {
+        highest: (n[0] % 0x1_0000_0000) as u32,
+        accepted: n[1],
+    };
+    let held = accept_in([l, l, l, l], n[2] as usize, (n[3] % 0x1_0000_0000) as u32);
+    let answer = held.answer;
+    let links = held.links;
+    let end = told::number(accept_number(answer) as u64, out, 0);
+    let end = link(links[0], out, end);
+    let end = link(links[1], out, end);
+    let end = link(links[2], out, end);
+    link(links[3], out, end)
+}
+
+// A link behind a place: its highest COUNT, and its bits.
+fn link(l: Link, out: &mut [u8], at: usize) -> usize {
+    let words = [l.highest as u64, l.accepted];
+    told::longs(&words, out, at)
+}
+
 // A line of a kind, with its numbers and bytes: the length of what was told, or 0 where it is of no kind. Kinds 20 and 21 are the arrays
 // as they stand.
 fn made(
@@ -235,6 +261,7 @@ fn made(
         17..=19 => once(kind, n, a, b, c, out),
         20 => told::words(g, out, 0),
         21 => told::longs(t, out, 0),
+        24 => guarded(n, out),
         _ => told::done(set(kind, n[0] as usize, n[1], g, t), out),
     }
 }
@@ -294,7 +321,8 @@ zuc256_tag width N key B iv B msg B bits N
 generator
 tag
 generator word N is W
-tag word N is W",
+tag word N is W
+accept_in highest W accepted W at N count W",
         g,
         t,
         out,
