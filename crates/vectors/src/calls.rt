@@ -1,10 +1,5 @@
 // Lines that call, and what they tell. What a call writes to is lent full of sevens.
 use super::in_place::drawn;
-use super::text::bytes_in;
-use super::text::kind_of;
-use super::text::line_at;
-use super::text::numbers_in;
-use super::told;
 use capi::generators::eea3_start;
 use capi::generators::zuc_draw;
 use capi::generators::zuc_mask_clean;
@@ -33,6 +28,11 @@ use guard::accept_in;
 use vectors_parts::front;
 use vectors_parts::least;
 use vectors_parts::put;
+use vectors_parts::text::bytes_in;
+use vectors_parts::text::kind_of;
+use vectors_parts::text::line_at;
+use vectors_parts::text::numbers_in;
+use vectors_parts::told;
 
 // The arrays that the lines work on.
 pub type Generator = [u32; 18];

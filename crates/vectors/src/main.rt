@@ -2,27 +2,24 @@
 // lines are.
 mod calls;
 mod in_place;
-mod table;
-mod text;
-mod told;
 
 use calls::Generator;
 use calls::TagArray;
 use libc::STDIN_FILENO;
 use std::num::wrapping_add_usize;
-use table::Tally;
-use table::put;
-use table::row;
-use text::before;
-use text::fits;
-use text::line_at;
-use text::place;
-use text::rest;
-use text::word;
-use text::written_out;
 use vectors_parts::byte_at;
 use vectors_parts::front;
 use vectors_parts::part;
+use vectors_parts::table::Tally;
+use vectors_parts::table::put;
+use vectors_parts::table::row;
+use vectors_parts::text::before;
+use vectors_parts::text::fits;
+use vectors_parts::text::line_at;
+use vectors_parts::text::place;
+use vectors_parts::text::rest;
+use vectors_parts::text::word;
+use vectors_parts::text::written_out;
 
 // What a call told, as text.
 struct Outcome {
@@ -82,6 +79,21 @@ fn called(
     p
 }
 
+// A line that is no call, and must be found so.
+fn found_broken(line: &[u8], progress: Progress, g: &mut Generator, t: &mut TagArray) -> Progress {
+    let mut p = progress;
+    let mut text = [0u8; 4096];
+    let tally = p.tally;
+    if calls::call(line, g, t, &mut text) == 0 {
+        let more = row(tally, word(line, 0), b"broken line", b"broken line", false);
+        p.tally = more;
+        return p;
+    }
+    let more = row(tally, word(line, 0), b"broken line", b"a call", false);
+    p.tally = more;
+    p
+}
+
 // Both arrays saved, or put back; or else a call.
 fn on_arrays(
     line: &[u8],
@@ -123,6 +135,9 @@ fn stepped(
     if check::same(word(line, 0), b"!") {
         return held(script, progress, rest(line, 1), true);
     }
+    if check::same(word(line, 0), b"?") {
+        return found_broken(rest(line, 1), progress, g, t);
+    }
     if fits(line, b"= kept") {
         return held_to_kept(script, progress);
     }
@@ -163,7 +178,7 @@ fn run(script: &[u8]) -> Tally {
         text: [0u8; 4096],
         len: 0,
     };
-    let tally = table::head();
+    let tally = vectors_parts::table::head();
     let mut p = Progress {
         tally,
         at: 0,
@@ -185,5 +200,5 @@ fn run(script: &[u8]) -> Tally {
 fn main() {
     let mut script = [0u8; 131072];
     let n = io::read_full(STDIN_FILENO, &mut script);
-    table::foot(run(front(&script, n)));
+    vectors_parts::table::foot(run(front(&script, n)));
 }

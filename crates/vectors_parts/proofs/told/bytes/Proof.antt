@@ -4,8 +4,8 @@ use mathlib.Core.Path.{_≡_}
 use Prim.Native.Nat.{_-_}
 use native.Mathlib.Omega.{arith}
 use borrow.Author.Needs.{needs}
-use Rattle.vectors.proofs.told.bytes.Statement.{statement}
-use Rattle.vectors.proofs.told.bytes.Tie as tie
+use Rattle.vectors_parts.proofs.told.bytes.Statement.{statement}
+use Rattle.vectors_parts.proofs.told.bytes.Tie as tie
 
 abbrev Inv-loop : tie.InvT-loop
 Inv-loop bytes out₀ at end₀ i₀ t7 i-end out end i = (i-end ≡ length bytes) × (length out ≡ length out₀)

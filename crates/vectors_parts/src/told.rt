@@ -1,7 +1,7 @@
 // What a call told, as text: numbers in decimal, words and bytes in hexadecimal, a space behind each.
-use vectors_parts::bytes_of;
-use vectors_parts::front;
-use vectors_parts::put;
+use super::bytes_of;
+use super::front;
+use super::put;
 
 // A number behind a place.
 pub fn number(n: u64, out: &mut [u8], at: usize) -> usize {

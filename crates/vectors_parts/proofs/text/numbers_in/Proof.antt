@@ -3,8 +3,8 @@ use lib.ListN.{length}
 use mathlib.Core.Path.{_≡_}
 use Prim.Native.Nat.{_-_}
 use borrow.Author.Needs.{needs}
-use Rattle.vectors.proofs.text.numbers_in.Statement.{statement}
-use Rattle.vectors.proofs.text.numbers_in.Tie as tie
+use Rattle.vectors_parts.proofs.text.numbers_in.Statement.{statement}
+use Rattle.vectors_parts.proofs.text.numbers_in.Tie as tie
 
 abbrev Inv-loop : tie.InvT-loop
 Inv-loop line pattern numbers₀ n₀ i₀ t8 t9 i-end numbers n i = i-end ≡ length pattern

@@ -1,13 +1,13 @@
 // Words of a line, which single spaces cut, and patterns that a line must fit.
 ghost use lib.ListN.{length};
 ghost use Prim.Native.Nat.{_≤_};
+use super::digit;
+use super::front;
+use super::least;
+use super::part;
+use super::put;
 use std::num::wrapping_add_u64;
 use std::num::wrapping_add_usize;
-use vectors_parts::digit;
-use vectors_parts::front;
-use vectors_parts::least;
-use vectors_parts::part;
-use vectors_parts::put;
 
 // A pattern of a table: its number, from 0, and its place.
 pub struct Kind {

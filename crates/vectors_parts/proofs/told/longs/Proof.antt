@@ -3,8 +3,8 @@ use lib.ListN.{length}
 use mathlib.Core.Path.{_≡_}
 use Prim.Native.Nat.{_-_}
 use borrow.Author.Needs.{needs}
-use Rattle.vectors.proofs.told.longs.Statement.{statement}
-use Rattle.vectors.proofs.told.longs.Tie as tie
+use Rattle.vectors_parts.proofs.told.longs.Statement.{statement}
+use Rattle.vectors_parts.proofs.told.longs.Tie as tie
 
 abbrev Inv-loop : tie.InvT-loop
 Inv-loop words out₀ at end₀ i₀ t6 i-end out end i = (i-end ≡ length words) × (length out ≡ length out₀)

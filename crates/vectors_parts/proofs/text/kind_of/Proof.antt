@@ -3,8 +3,8 @@ use lib.ListN.{length}
 use mathlib.Core.Path.{_≡_}
 use Prim.Native.Nat.{_-_}
 use borrow.Author.Needs.{needs}
-use Rattle.vectors.proofs.text.kind_of.Statement.{statement}
-use Rattle.vectors.proofs.text.kind_of.Tie as tie
+use Rattle.vectors_parts.proofs.text.kind_of.Statement.{statement}
+use Rattle.vectors_parts.proofs.text.kind_of.Tie as tie
 
 abbrev Inv-loop : tie.InvT-loop
 Inv-loop line table at₀ i₀ i-end at i = i-end ≡ length table

@@ -3,8 +3,8 @@ use lib.ListN.{length}
 use mathlib.Core.Path.{_≡_}
 use Prim.Native.Nat.{_-_}
 use borrow.Author.Needs.{needs}
-use Rattle.vectors.proofs.text.operand.Statement.{statement}
-use Rattle.vectors.proofs.text.operand.Tie as tie
+use Rattle.vectors_parts.proofs.text.operand.Statement.{statement}
+use Rattle.vectors_parts.proofs.text.operand.Tie as tie
 
 abbrev Inv-loop : tie.InvT-loop
 Inv-loop line pattern n left₀ i₀ t6 i-end left i = i-end ≡ length pattern

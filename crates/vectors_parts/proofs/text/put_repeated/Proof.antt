@@ -3,8 +3,8 @@ use lib.ListN.{length}
 use mathlib.Core.Path.{_≡_}
 use Prim.Native.Nat.{_-_}
 use borrow.Author.Needs.{needs}
-use Rattle.vectors.proofs.text.put_repeated.Statement.{statement}
-use Rattle.vectors.proofs.text.put_repeated.Tie as tie
+use Rattle.vectors_parts.proofs.text.put_repeated.Statement.{statement}
+use Rattle.vectors_parts.proofs.text.put_repeated.Tie as tie
 
 abbrev Inv-loop : tie.InvT-loop
 Inv-loop word out₀ at star times end₀ i₀ out end i = length out ≡ length out₀

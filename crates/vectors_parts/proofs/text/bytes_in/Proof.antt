@@ -3,8 +3,8 @@ use lib.ListN.{length}
 use mathlib.Core.Path.{_≡_}
 use Prim.Native.Nat.{_-_, _/_, _≤_}
 use borrow.Author.Needs.{needs}
-use Rattle.vectors.proofs.text.bytes_in.Statement.{statement}
-use Rattle.vectors.proofs.text.bytes_in.Tie as tie
+use Rattle.vectors_parts.proofs.text.bytes_in.Statement.{statement}
+use Rattle.vectors_parts.proofs.text.bytes_in.Tie as tie
 
 abbrev Inv-loop : tie.InvT-loop
 Inv-loop line pattern nth out₀ text n i₀ out i = (n ≤ length text / 2) × (n ≤ length out₀) × (length out ≡ length out₀)

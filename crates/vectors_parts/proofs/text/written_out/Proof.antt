@@ -3,8 +3,8 @@ use lib.ListN.{length}
 use mathlib.Core.Path.{_≡_}
 use Prim.Native.Nat.{_-_}
 use borrow.Author.Needs.{needs}
-use Rattle.vectors.proofs.text.written_out.Statement.{statement}
-use Rattle.vectors.proofs.text.written_out.Tie as tie
+use Rattle.vectors_parts.proofs.text.written_out.Statement.{statement}
+use Rattle.vectors_parts.proofs.text.written_out.Tie as tie
 
 abbrev Inv-loop : tie.InvT-loop
 Inv-loop line out₀ end₀ i₀ t6 i-end out end i = (i-end ≡ length line) × (length out ≡ length out₀)

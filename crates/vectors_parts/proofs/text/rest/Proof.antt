@@ -1,8 +1,8 @@
 -- `rest` ends: a word a turn.
 use Prim.Native.Nat.{_-_}
 use borrow.Author.Needs.{needs}
-use Rattle.vectors.proofs.text.rest.Statement.{statement}
-use Rattle.vectors.proofs.text.rest.Tie as tie
+use Rattle.vectors_parts.proofs.text.rest.Statement.{statement}
+use Rattle.vectors_parts.proofs.text.rest.Tie as tie
 
 abbrev Inv-loop : tie.InvT-loop
 Inv-loop line n at₀ i₀ at i = Unit {0}
