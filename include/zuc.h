@@ -45,11 +45,16 @@
 extern "C" {
 #endif
 
-/* Words of a generator's state: the cells s0..s15, then R1, then R2. */
-#define ZUC_STATE_WORDS 18
+/*
+ * Words of a generator's state: sixteen places, then R1, R2, and a start index of
+ * 0..15. The cells stay put and are to be read from the index: cell j of the
+ * standard stands at place (index + j) mod 16. A start leaves index 0. A draw
+ * writes one cell, R1, R2 and the index, which goes up by one, from 15 back to 0.
+ */
+#define ZUC_STATE_WORDS 19
 
 /* Words of a tag's state. What stands where is the library's own affair. */
-#define ZUC_TAG_WORDS 19
+#define ZUC_TAG_WORDS 20
 
 /* Refusals, in the order in which they are checked; the guard's own come last. */
 #define ZUC_BAD_WIDTH 1u /* the tag width is not 4, 8 or 16 bytes */
@@ -63,7 +68,9 @@ extern "C" {
 
 /* ---------------------------------------------------------------------------
  * Generators. A state is malformed when one of its sixteen cells is outside
- * 1..2147483647; any R1 and R2 will do.
+ * 1..2147483647 or its start index is above 15; any R1 and R2 will do. States
+ * whose cells agree, each read from its own index, and whose R1 and R2 agree, are
+ * one state in different turns: every call answers the same to them.
  * ------------------------------------------------------------------------- */
 
 /*

@@ -7,9 +7,10 @@ use yegetmur::capi::{self, State, TagState, STATE_WORDS, TAG_WORDS};
 use crate::input::{Call, Input, Mode, Start, Tagger};
 use crate::quiet::caught;
 use crate::report::Trial;
-use crate::rules::{bits_refusal, first, start_refusal, well_formed, BAD_STATE};
+use crate::ring::Ring;
+use crate::rules::{bits_refusal, first, start_refusal, BAD_STATE};
 use crate::users::{with_crate, with_port};
-use crate::{layout, model, original, port};
+use crate::{layout, model, original, port, turn};
 
 /// What differs.
 pub type Verdict = Result<(), String>;
@@ -35,18 +36,23 @@ pub fn check(input: &Input) -> Verdict {
         Call::Mask(mode, start) => mask(mode, start, input),
         Call::Tag(tagger) => tag(tagger, input),
         Call::LentState => lent_state(input),
-        Call::LentTag => lent_tag(input),
+        Call::LentTag => lent_tag_state(&input.tag_state(), input),
+        Call::StateTurns => turn::state_turns(input),
+        Call::TagTurns => turn::tag_turns(input),
     }
 }
 
-fn same<T: PartialEq + LowerHex>(what: &str, expected: T, port: T) -> Verdict {
+pub fn same<T: PartialEq + LowerHex>(what: &str, expected: T, port: T) -> Verdict {
     if expected == port {
         return Ok(());
     }
     Err(format!("{what}: expected {expected:#x}, the port has {port:#x}"))
 }
 
-fn same_list<T: PartialEq + LowerHex + Copy>(what: &str, expected: &[T], port: &[T]) -> Verdict {
+pub fn same_list<T>(what: &str, expected: &[T], port: &[T]) -> Verdict
+where
+    T: PartialEq + LowerHex + Copy,
+{
     assert_eq!(expected.len(), port.len(), "{what}");
     match (0..port.len()).find(|&i| expected[i] != port[i]) {
         Some(i) => same(&format!("{what}, place {i}"), expected[i], port[i]),
@@ -81,8 +87,8 @@ fn dirty_tag_state() -> TagState {
     [u64::from_ne_bytes([DIRT; 8]); TAG_WORDS]
 }
 
-/// The port's state after a start, or nothing if it is rightly refused.
-fn started(start: Start, input: &Input) -> Result<Option<State>, String> {
+/// The state after a start, or nothing if it is rightly refused.
+fn started(start: Start, input: &Input) -> Result<Option<Ring>, String> {
     let refusal = start_refusal(input);
     let mut state = dirty_state();
     same("refusal of the start", refusal, port::start(start, input, &mut state))?;
@@ -90,45 +96,47 @@ fn started(start: Start, input: &Input) -> Result<Option<State>, String> {
         same_list("state after a refused start", &[0; STATE_WORDS], &state)?;
         return Ok(None);
     }
-    same_list("state after the start", &original::start_state(start, input), &state)?;
-    Ok(Some(state))
+    let ring = Ring::turned(&original::start_state(start, input), 0);
+    same_list("state after the start", &ring.array(), &state)?;
+    Ok(Some(ring))
 }
 
 fn words(start: Start, input: &Input) -> Verdict {
-    let Some(state) = started(start, input)? else {
+    let Some(ring) = started(start, input)? else {
         return Ok(());
     };
     let expected = with_crate::words(start, input);
     same_list("words of the package", &expected, &with_port::words(start, input))?;
-    let mut after = original::start_state(start, input);
-    same_list("words of the crate's inside", &expected, &original::words(&mut after, input.words))?;
-    draws(&state, &expected, &after)
+    let inside = original::words(&mut ring.meaning(), input.words);
+    same_list("words of the crate's inside", &expected, &inside)?;
+    draws(&ring, &expected)
 }
 
 /// Words from a well-formed state, one at a time and in one call.
-fn draws(state: &State, expected: &[u32], after: &State) -> Verdict {
-    let mut one = *state;
+fn draws(ring: &Ring, expected: &[u32]) -> Verdict {
+    let after = ring.after(expected.len()).array();
+    let mut one = ring.array();
     let mut drawn = vec![!0; expected.len()];
     for word in &mut drawn {
         same("refusal of zuc_draw", 0, capi::zuc_draw(&mut one, word))?;
     }
     same_list("words by zuc_draw", expected, &drawn)?;
-    same_list("state after zuc_draw", after, &one)?;
+    same_list("state after zuc_draw", &after, &one)?;
 
-    let mut all = *state;
+    let mut all = ring.array();
     let mut out = vec![!0; expected.len() + 2];
     let lent = &mut out[1..=expected.len()];
     same("refusal of zuc_words", 0, capi::zuc_words(&mut all, lent))?;
     same_list("words by zuc_words", expected, lent)?;
-    same_list("state after zuc_words", after, &all)?;
+    same_list("state after zuc_words", &after, &all)?;
     same_list("words around those lent", &[!0; 2], &[out[0], out[out.len() - 1]])
 }
 
 fn mask(mode: Mode, start: Start, input: &Input) -> Verdict {
-    let Some(state) = started(start, input)? else {
+    let Some(ring) = started(start, input)? else {
         return Ok(());
     };
-    masked_from(mode, &state, input)?;
+    masked_from(mode, &ring, input)?;
     if mode == Mode::Clean {
         return Ok(());
     }
@@ -141,17 +149,17 @@ fn mask(mode: Mode, start: Start, input: &Input) -> Verdict {
 
 /// A mask from a well-formed state: number, count, state, and every byte in and around
 /// the buffer.
-fn masked_from(mode: Mode, state: &State, input: &Input) -> Verdict {
+fn masked_from(mode: Mode, ring: &Ring, input: &Input) -> Verdict {
     let Input { data, bits, .. } = input;
-    let mut expected_state = *state;
     let mut expected = data.clone();
-    let drawn = original::mask(&mut expected_state, &mut expected, *bits);
+    let drawn = original::mask(&mut ring.meaning(), &mut expected, *bits);
     if mode == Mode::Clean && drawn.is_some() {
-        let words = original::words(&mut state.clone(), data.len().div_ceil(4));
+        let words = original::words(&mut ring.meaning(), data.len().div_ceil(4));
         expected = model::clean(&words, data, *bits);
     }
+    let expected_state = ring.after(drawn.unwrap_or(0)).array();
 
-    let mut port_state = *state;
+    let mut port_state = ring.array();
     let mut count = usize::MAX;
     // the buffer begins at any place within a word
     let (front, end) = (MARGIN + bits % 8, MARGIN + bits % 8 + data.len());
@@ -211,7 +219,8 @@ fn tag_in_steps(
     expected: Option<u128>,
 ) -> Verdict {
     let mut model = (input.data.len() <= MODEL_BYTES)
-        .then(|| model::Tag::start(tagger, original::tag_start_state(tagger, input)));
+        .then(|| Ring::turned(&original::tag_start_state(tagger, input), 0))
+        .map(|generator| model::Tag::start(tagger, generator));
     same_tag_state("tag state after the start", &model, &state)?;
     for piece in input.pieces() {
         same("refusal of an update", 0, port::tag_update(tagger, &mut state, piece))?;
@@ -249,16 +258,22 @@ fn same_tag_state(what: &str, model: &Option<model::Tag>, state: &TagState) -> V
 
 /// Every call that a generator's state can be lent to.
 fn lent_state(input: &Input) -> Verdict {
-    let state: State = std::array::from_fn(|i| input.array[i] as u32);
-    if well_formed(&state[..16]) {
-        let mut after = state;
-        let expected = original::words(&mut after, input.words);
-        draws(&state, &expected, &after)?;
-        masked_from(Mode::Crate, &state, input)?;
-        return masked_from(Mode::Clean, &state, input);
+    let state = input.state();
+    match Ring::of_array(&state) {
+        Some(ring) => held(&ring, input),
+        None => malformed(&state, input),
     }
+}
 
-    let mut lent = state;
+/// Every call on a well-formed state.
+pub fn held(ring: &Ring, input: &Input) -> Verdict {
+    draws(ring, &original::words(&mut ring.meaning(), input.words))?;
+    masked_from(Mode::Crate, ring, input)?;
+    masked_from(Mode::Clean, ring, input)
+}
+
+fn malformed(state: &State, input: &Input) -> Verdict {
+    let mut lent = *state;
     let (mut word, mut out) = (!0, vec![!0; input.words]);
     same("refusal of a draw", BAD_STATE, capi::zuc_draw(&mut lent, &mut word))?;
     same("refused word", 0, word)?;
@@ -271,18 +286,17 @@ fn lent_state(input: &Input) -> Verdict {
         same("count of a refused mask", 0, count)?;
         same_list("buffer of a refused mask", &input.data, &buffer)?;
     }
-    same_list("state after refusals", &state, &lent)
+    same_list("state after refusals", state, &lent)
 }
 
 /// Every call that a tag's state can be lent to.
-fn lent_tag(input: &Input) -> Verdict {
-    let array: TagState = std::array::from_fn(|i| input.array[i]);
-    let parts = layout::unpack(&array);
+pub fn lent_tag_state(array: &TagState, input: &Input) -> Verdict {
+    let parts = layout::unpack(array);
     for tagger in [Tagger::Zuc128, Tagger::Zuc256 { width: 4 }] {
         let extra_word = tagger == Tagger::Zuc128;
         let model = model::Tag::from_parts(extra_word, &parts);
-        lent_update(tagger, &array, model.clone(), input)?;
-        lent_finish(tagger, &array, model, input)?;
+        lent_update(tagger, array, model.clone(), input)?;
+        lent_finish(tagger, array, model, input)?;
     }
     Ok(())
 }

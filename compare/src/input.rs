@@ -2,6 +2,8 @@
 
 use std::fmt;
 
+use yegetmur::capi::{State, TagState};
+
 use crate::hex::hex;
 
 /// The starts of a generator.
@@ -39,6 +41,10 @@ pub enum Call {
     LentState,
     /// An update by `data`, and a finish by `data` and `bits`, on the tag state `array`.
     LentTag,
+    /// As `LentState`, from the well-formed state `array` in all its turns.
+    StateTurns,
+    /// As `LentTag`, on the tag state `array`, its well-formed generator in all its turns.
+    TagTurns,
 }
 
 #[derive(Clone, PartialEq, Debug)]
@@ -83,6 +89,16 @@ impl Input {
         )
     }
 
+    /// The array as a generator's.
+    pub fn state(&self) -> State {
+        std::array::from_fn(|i| self.array[i] as u32)
+    }
+
+    /// The array as a tag's.
+    pub fn tag_state(&self) -> TagState {
+        std::array::from_fn(|i| self.array[i])
+    }
+
     /// The pieces of `data` that go into updates.
     pub fn pieces(&self) -> impl Iterator<Item = &[u8]> {
         self.cuts.iter().scan(&self.data[..], |rest, &length| {
@@ -111,7 +127,7 @@ pub fn lengths(call: Call) -> (usize, usize) {
             Tagger::Zuc256 { .. } => (32, 23),
             Tagger::Eia3 => (16, 0),
         },
-        Call::LentState | Call::LentTag => (0, 0),
+        Call::LentState | Call::LentTag | Call::StateTurns | Call::TagTurns => (0, 0),
     }
 }
 
@@ -120,7 +136,7 @@ impl fmt::Display for Input {
     fn fmt(&self, f: &mut fmt::Formatter<'_>) -> fmt::Result {
         write!(f, "{:?}", self.call)?;
         match self.call {
-            Call::LentState | Call::LentTag => write!(f, " array={:x?}", self.array)?,
+            _ if !self.array.is_empty() => write!(f, " array={:x?}", self.array)?,
             _ if self.takes_fields() => {
                 let Self { count, bearer, direction, .. } = self;
                 write!(f, " count={count:#x} bearer={bearer} direction={direction}")?;
@@ -135,7 +151,7 @@ impl fmt::Display for Input {
         if matches!(self.call, Call::Tag(_)) {
             write!(f, " cuts={:?}", self.cuts)?;
         }
-        if matches!(self.call, Call::Words(_) | Call::LentState) {
+        if matches!(self.call, Call::Words(_) | Call::LentState | Call::StateTurns) {
             write!(f, " words={}", self.words)?;
         }
         Ok(())

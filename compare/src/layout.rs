@@ -3,15 +3,15 @@
 //! A caller needs none of this. The driver does, to hold every number of an array to
 //! document 01 after each call, and to spoil arrays one number at a time.
 
-use window::State;
 use yegetmur::capi::{TagState, TAG_WORDS};
 
-/// The generator, the key pair and the tag in 64-bit words (as many as the width asks,
-/// the others zero), the bytes that wait for a block with zeros after them, their
-/// count, and the tag's width in bytes.
+/// The generator's places, R1 and R2; its start index; the key pair and the tag in 64-bit
+/// words (as many as the width asks, the others zero); the bytes that wait for a block
+/// with zeros after them, their count; the tag's width in bytes.
 #[derive(Clone, PartialEq, Debug)]
 pub struct Parts {
-    pub generator: State,
+    pub generator: [u32; 18],
+    pub start: u64,
     pub key: [u64; 4],
     pub tag: [u64; 2],
     pub waiting: [u8; 16],
@@ -19,17 +19,19 @@ pub struct Parts {
     pub width: usize,
 }
 
-const KEY: usize = 9;
-const TAG: usize = 13;
-const WAITING: usize = 15;
-const COUNT: usize = 17;
-const WIDTH: usize = 18;
+const START: usize = 9;
+const KEY: usize = 10;
+const TAG: usize = 14;
+const WAITING: usize = 16;
+const COUNT: usize = 18;
+const WIDTH: usize = 19;
 
 pub fn pack(parts: &Parts) -> TagState {
     let mut array = [0; TAG_WORDS];
     for (number, pair) in array.iter_mut().zip(parts.generator.chunks(2)) {
         *number = u64::from(pair[0]) << 32 | u64::from(pair[1]);
     }
+    array[START] = parts.start;
     array[KEY..TAG].copy_from_slice(&parts.key);
     array[TAG..WAITING].copy_from_slice(&parts.tag);
     for (number, bytes) in array[WAITING..].iter_mut().zip(parts.waiting.chunks(8)) {
@@ -52,6 +54,7 @@ pub fn unpack(array: &TagState) -> Parts {
     }
     Parts {
         generator,
+        start: array[START],
         key: array[KEY..TAG].try_into().expect("four words"),
         tag: array[TAG..WAITING].try_into().expect("two words"),
         waiting,
@@ -71,6 +74,7 @@ mod tests {
         for _ in 0..1000 {
             let parts = Parts {
                 generator: [0; 18].map(|_: u32| rng.number() as u32),
+                start: rng.number(),
                 key: [0; 4].map(|_: u64| rng.number()),
                 tag: [0; 2].map(|_: u64| rng.number()),
                 waiting: rng.bytes(16).try_into().expect("sixteen bytes"),

@@ -5,6 +5,9 @@
 //! interface, and says the first thing that differs. [`plan`] says which inputs are
 //! tried; [`shrink`] makes a failing one small.
 //!
+//! The cells of the port's states stay put: [`ring`] models that, [`turn`] has one state
+//! in all its turns, and [`turns`] says which are tried.
+//!
 //! The guard is not the crate's: a [`walk::Walk`] is a list of calls on one table, held
 //! to a model of sets; [`walks`] says which are tried.
 
@@ -21,9 +24,12 @@ pub mod port;
 pub mod quiet;
 pub mod record;
 pub mod report;
+pub mod ring;
 pub mod rng;
 pub mod rules;
 pub mod shrink;
+pub mod turn;
+pub mod turns;
 pub mod users;
 pub mod walk;
 pub mod walks;

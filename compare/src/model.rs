@@ -3,9 +3,7 @@
 
 use crate::input::Tagger;
 use crate::layout::Parts;
-use crate::original;
-use crate::rules::well_formed;
-use window::State;
+use crate::ring::Ring;
 
 /// Bit `i` of a list of words, highest bit of a word first.
 fn word_bit(words: &[u32], i: usize) -> u128 {
@@ -43,7 +41,7 @@ pub struct Tag {
     /// Whether it closes as EIA3 does, with one word more.
     extra_word: bool,
     width: usize,
-    generator: State,
+    generator: Ring,
     /// The keystream's words from the place of the next block on: twice the width.
     key: Vec<u32>,
     tag: u128,
@@ -53,17 +51,13 @@ pub struct Tag {
 
 impl Tag {
     /// A tag whose generator has drawn nothing yet.
-    pub fn start(tagger: Tagger, mut generator: State) -> Self {
+    pub fn start(tagger: Tagger, mut generator: Ring) -> Self {
         let (extra_word, width) = match tagger {
             Tagger::Zuc128 | Tagger::Eia3 => (true, 4),
             Tagger::Zuc256 { width } => (false, width),
         };
-        let tag = if extra_word {
-            0
-        } else {
-            window(&original::words(&mut generator, width / 4), 0, 8 * width)
-        };
-        let key = original::words(&mut generator, width / 2);
+        let tag = if extra_word { 0 } else { window(&generator.words(width / 4), 0, 8 * width) };
+        let key = generator.words(width / 2);
         Self { extra_word, width, generator, key, tag, waiting: Vec::new() }
     }
 
@@ -76,7 +70,7 @@ impl Tag {
         let tag = Self {
             extra_word,
             width: parts.width,
-            generator: parts.generator,
+            generator: Ring::held(&parts.generator, parts.start)?,
             key: key_words(parts),
             tag: match parts.width {
                 16 => u128::from(parts.tag[0]) << 64 | u128::from(parts.tag[1]),
@@ -85,14 +79,14 @@ impl Tag {
             waiting: parts.waiting[..parts.count].to_vec(),
         };
         // what is unused at its width must be zero: it then stands in no other way
-        let cells = well_formed(&parts.generator[..16]);
-        (cells && tag.parts() == *parts).then_some(tag)
+        (tag.parts() == *parts).then_some(tag)
     }
 
     /// The tag's state in the parts of an array.
     pub fn parts(&self) -> Parts {
         let mut parts = Parts {
-            generator: self.generator,
+            generator: self.generator.numbers(),
+            start: self.generator.start() as u64,
             key: [0; 4],
             tag: match self.width {
                 4 => [(self.tag as u32).into(), 0],
@@ -112,11 +106,11 @@ impl Tag {
 
     /// The keystream from the place of the next block on, long enough for the windows of
     /// so many bits, and the generator after each of the words drawn for it.
-    fn stream(&self, bits: usize) -> (Vec<u32>, Vec<State>) {
+    fn stream(&self, bits: usize) -> (Vec<u32>, Vec<Ring>) {
         let (mut words, mut after) = (self.key.clone(), vec![self.generator]);
         while words.len() < (bits + 16 * self.width).div_ceil(32) {
             let mut generator = after[after.len() - 1];
-            words.push(original::draw(&mut generator));
+            words.push(generator.draw());
             after.push(generator);
         }
         (words, after)
@@ -154,7 +148,7 @@ mod tests {
 
     /// A tag whose first words of keystream are these, with none beyond them.
     fn tag(extra_word: bool, tag: u128, key: [u32; 2]) -> Tag {
-        let (generator, waiting) = ([1; 18], Vec::new());
+        let (generator, waiting) = (Ring::turned(&[1; 18], 0), Vec::new());
         Tag { extra_word, width: 4, generator, key: key.to_vec(), tag, waiting }
     }
 

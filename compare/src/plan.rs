@@ -1,12 +1,14 @@
 //! Which inputs are tried.
 
-use yegetmur::capi::TAG_WORDS;
+use yegetmur::capi::{STATE_WORDS, TAG_WORDS};
 
 use crate::input::{lengths, Call, Input, Mode, Start, Tagger};
 use crate::layout::{pack, Parts};
 use crate::model::Tag;
 use crate::original::{start_state, tag_start_state};
+use crate::ring::Ring;
 use crate::rng::Rng;
+use crate::turns;
 
 pub const STARTS: [Start; 3] = [Start::Zuc128, Start::Zuc256, Start::Eea3];
 
@@ -40,7 +42,7 @@ pub type Try<'a> = &'a mut dyn FnMut(Input);
 pub type Inputs = fn(&mut Rng, Try);
 
 /// The sections of the quick run, each with the inputs that it tries.
-pub const SECTIONS: [(&str, Inputs); 13] = [
+pub const SECTIONS: [(&str, Inputs); 18] = [
     ("words: keys and IVs of structure", structured),
     ("words: 0 to 70 at a time", word_counts),
     ("EEA3, EIA3: every bearer with every direction", bearers_and_directions),
@@ -52,6 +54,11 @@ pub const SECTIONS: [(&str, Inputs); 13] = [
     ("lengths of keys and IVs, tag widths", wrong_lengths),
     ("generator states as lent arrays", lent_states),
     ("tag states as lent arrays", lent_tags),
+    ("16 turns: 0 to 70 words, 0 to 40 bytes", turns::short_states),
+    ("16 turns: tags of 0 to 20 bytes", turns::short_tags),
+    ("16 turns: edges of cells and lengths", turns::edges),
+    ("16 turns: random, to 16 KiB", turns::random_turns),
+    ("start indices to 15 and above, cells spoilt", turns::indices),
     ("random, to 2 KiB", random_short),
     ("random, to 1 MiB", random_long),
 ];
@@ -198,7 +205,7 @@ fn every_cut(rng: &mut Rng, attempt: Try) {
 }
 
 /// Lengths next to the first multiples of what words, tags and blocks are made of.
-fn edge_lengths() -> Vec<usize> {
+pub fn edge_lengths() -> Vec<usize> {
     let mut lengths: Vec<usize> = [4, 8, 16, 32, 64]
         .into_iter()
         .flat_map(|size| (1..=16).map(move |times| size * times))
@@ -260,7 +267,7 @@ fn wrong_lengths(rng: &mut Rng, attempt: Try) {
 }
 
 /// Cells and registers at which a sum, a fold or a half could slip.
-const EDGE_CELLS: [u32; 10] =
+pub const EDGE_CELLS: [u32; 10] =
     [1, 2, 0x7fff, 0x8000, 0xffff, 0x1_0000, 0x4000_0000, 0x7fff_8000, 0x7fff_fffe, 0x7fff_ffff];
 
 /// An array lent to every call that takes one, with a little data and a bit length that
@@ -275,24 +282,26 @@ fn lent(rng: &mut Rng, call: Call, array: Vec<u64>) -> Input {
 fn lent_states(rng: &mut Rng, attempt: Try) {
     for start in STARTS {
         let input = keyed(rng, Call::Words(start));
-        let good = start_state(start, &input).map(u64::from);
-        for place in 0..18 {
+        let good = Ring::turned(&start_state(start, &input), rng.below(16)).array();
+        for place in 0..STATE_WORDS {
             for number in [0, 1, 0x7fff_ffff, 0x8000_0000, 0x8000_0001, 0xffff_ffff] {
-                let mut array = good.to_vec();
+                let mut array = good.map(u64::from);
                 array[place] = number;
-                attempt(lent(rng, Call::LentState, array));
+                attempt(lent(rng, Call::LentState, array.to_vec()));
             }
         }
     }
     for number in [0, 1, 0x7fff_ffff, 0x8000_0000, 0xffff_ffff] {
-        attempt(lent(rng, Call::LentState, vec![number; 18]));
+        attempt(lent(rng, Call::LentState, vec![number; STATE_WORDS]));
     }
     for _ in 0..5000 {
-        let array = (0..18).map(|_| rng.pick(&EDGE_CELLS).into()).collect();
-        attempt(lent(rng, Call::LentState, array));
-        let mut array: Vec<u64> = (0..18).map(|_| 1 + rng.number() % 0x7fff_ffff).collect();
-        array[16..].fill_with(|| rng.number() >> 32);
-        attempt(lent(rng, Call::LentState, array));
+        let mut array = [0; STATE_WORDS].map(|_: u64| rng.pick(&EDGE_CELLS).into());
+        array[18] = rng.below(17) as u64;
+        attempt(lent(rng, Call::LentState, array.to_vec()));
+        let mut array = [0; STATE_WORDS].map(|_: u64| 1 + rng.number() % 0x7fff_ffff);
+        array[16..18].fill_with(|| rng.number() >> 32);
+        array[18] = rng.below(17) as u64;
+        attempt(lent(rng, Call::LentState, array.to_vec()));
     }
 }
 
@@ -307,7 +316,8 @@ fn lent_tags(rng: &mut Rng, attempt: Try) {
     for tagger in TAGGERS {
         for taken in [0, 1, 3, 4, 7, 15, 17] {
             let input = keyed(rng, Call::Tag(tagger));
-            let mut tag = Tag::start(tagger, tag_start_state(tagger, &input));
+            let generator = Ring::turned(&tag_start_state(tagger, &input), 0);
+            let mut tag = Tag::start(tagger, generator);
             tag.update(&rng.bytes(taken));
             let good = pack(&tag.parts());
             attempt(lent(rng, Call::LentTag, good.to_vec()));
@@ -331,11 +341,12 @@ fn lent_tags(rng: &mut Rng, attempt: Try) {
     }
 }
 
-/// Parts that are well formed, or are so but for one slip.
-fn random_parts(rng: &mut Rng) -> Parts {
+/// Parts that are well formed, or are so but for one slip, not in the generator.
+pub fn random_parts(rng: &mut Rng) -> Parts {
     let width = rng.pick(&[4, 8, 16]);
     let mut parts = Parts {
         generator: [0; 18].map(|_: u32| rng.pick(&EDGE_CELLS)),
+        start: rng.below(16) as u64,
         key: [0; 4].map(|_: u64| rng.number()),
         tag: [0; 2].map(|_: u64| rng.number()),
         waiting: [0; 16],

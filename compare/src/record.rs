@@ -117,7 +117,7 @@ fn op_and_width(call: Call) -> (u8, u8) {
         Call::Tag(Tagger::Zuc128) => (0x21, 4),
         Call::Tag(Tagger::Zuc256 { width }) => (0x22, width as u8),
         Call::Tag(Tagger::Eia3) => (0x23, 4),
-        Call::LentState | Call::LentTag => unreachable!("the crate is lent no state"),
+        _ => unreachable!("the crate is lent no state"),
     }
 }
 
@@ -126,7 +126,7 @@ fn answer(input: &Input) -> Answer {
         Call::Words(start) => words(start, input),
         Call::Mask(_, start) => masked(start, input),
         Call::Tag(tagger) => tag(tagger, input),
-        Call::LentState | Call::LentTag => unreachable!("the crate is lent no state"),
+        _ => unreachable!("the crate is lent no state"),
     }
 }
 

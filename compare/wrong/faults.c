@@ -7,6 +7,10 @@
 
 #include <string.h>
 
+/* Where the start index stands. */
+#define INDEX 18
+#define TAG_INDEX 9
+
 #define RIGHT(name) extern __typeof__(name) right_##name
 RIGHT(zuc128_start);
 RIGHT(zuc256_start);
@@ -16,6 +20,7 @@ RIGHT(zuc_mask_crate);
 RIGHT(zuc_mask_clean);
 RIGHT(zuc256_tag_start);
 RIGHT(zuc128_tag_update);
+RIGHT(zuc256_tag_update);
 RIGHT(zuc128_tag_finish);
 RIGHT(zuc256_tag_finish);
 RIGHT(zuc128_tag);
@@ -23,7 +28,17 @@ RIGHT(zuc256_tag);
 RIGHT(zuc_guard_accept);
 RIGHT(zuc_guard_rekey);
 
-#if FAULT == 1 || FAULT == 3 || FAULT == 17
+/* The same cells from another index. */
+static inline void turn(uint32_t state[ZUC_STATE_WORDS], uint32_t index)
+{
+    uint32_t before[ZUC_STATE_WORDS];
+    memcpy(before, state, sizeof before);
+    for (uint32_t j = 0; j < 16; j++)
+        state[(index + j) % 16] = before[(before[INDEX] + j) % 16];
+    state[INDEX] = index;
+}
+
+#if FAULT == 1 || FAULT == 3 || FAULT == 17 || FAULT == 36 || FAULT == 38
 uint32_t zuc_mask_crate(uint32_t state[ZUC_STATE_WORDS],
                         uint8_t *buf, size_t len, size_t bits, size_t *count)
 {
@@ -46,11 +61,19 @@ uint32_t zuc_mask_crate(uint32_t state[ZUC_STATE_WORDS],
     /* fault 17: a refused mask says nothing of the count */
     if (FAULT == 17 && refusal != 0)
         *count = count_before;
+
+    /* fault 36: a mask raises the index by one too few */
+    if (FAULT == 36 && refusal == 0)
+        state[INDEX] = (state[INDEX] + 15) % 16;
+
+    /* fault 38: a refusal resets the index */
+    if (FAULT == 38 && refusal != 0)
+        state[INDEX] = 0;
     return refusal;
 }
 #endif
 
-#if FAULT == 2 || FAULT == 4
+#if FAULT == 2 || FAULT == 4 || FAULT == 37
 uint32_t zuc_mask_clean(uint32_t state[ZUC_STATE_WORDS],
                         uint8_t *buf, size_t len, size_t bits, size_t *count)
 {
@@ -60,8 +83,12 @@ uint32_t zuc_mask_clean(uint32_t state[ZUC_STATE_WORDS],
 
     /* fault 4: the right buffer and state, a made-up count */
     uint32_t refusal = right_zuc_mask_clean(state, buf, len, bits, count);
-    if (refusal == 0)
+    if (FAULT == 4 && refusal == 0)
         *count = (len + 3) / 4;
+
+    /* fault 37: a mask leaves the right cells, but from index 0 */
+    if (FAULT == 37 && refusal == 0)
+        turn(state, 0);
     return refusal;
 }
 #endif
@@ -150,13 +177,19 @@ uint32_t zuc256_tag_start(uint64_t state[ZUC_TAG_WORDS], size_t width, const uin
 }
 #endif
 
-#if FAULT == 11 || FAULT == 14
+#if FAULT == 11 || FAULT == 14 || FAULT == 42
 uint32_t zuc256_tag_finish(uint64_t state[ZUC_TAG_WORDS], const uint8_t *tail, size_t len,
                            size_t bits, uint64_t tag[2])
 {
     /* fault 11: a bit length is rounded up to bytes modulo 2^64 */
     if (FAULT == 11)
         return right_zuc256_tag_finish(state, tail, len, bits + 7 < 7 ? 0 : bits, tag);
+
+    /* fault 42: a finish takes an index modulo 16 */
+    if (FAULT == 42) {
+        state[TAG_INDEX] %= 16;
+        return right_zuc256_tag_finish(state, tail, len, bits, tag);
+    }
 
     /* fault 14: a tag can be closed twice */
     uint64_t copy[ZUC_TAG_WORDS];
@@ -165,33 +198,83 @@ uint32_t zuc256_tag_finish(uint64_t state[ZUC_TAG_WORDS], const uint8_t *tail, s
 }
 #endif
 
-#if FAULT == 12
-/* fault 12: one word too many is written, if seven are asked for */
+#if FAULT == 12 || FAULT == 39
 uint32_t zuc_words(uint32_t state[ZUC_STATE_WORDS], uint32_t *out, size_t n)
 {
+    uint32_t copy[ZUC_STATE_WORDS];
+    memcpy(copy, state, sizeof copy);
     uint32_t refusal = right_zuc_words(state, out, n);
-    if (refusal == 0 && n == 7)
+
+    /* fault 12: one word too many is written, if seven are asked for */
+    if (FAULT == 12 && refusal == 0 && n == 7)
         out[7] = 0;
+
+    /* fault 39: words from a turned state are read from index + 1 */
+    if (FAULT == 39 && refusal == 0 && copy[INDEX] != 0) {
+        copy[INDEX] = (copy[INDEX] + 1) % 16;
+        right_zuc_words(copy, out, n);
+    }
     return refusal;
 }
 #endif
 
-#if FAULT == 13
-/* fault 13: a cell of 0 in the place of 2^31 - 1 */
+#if FAULT == 13 || (FAULT >= 31 && FAULT <= 35)
 uint32_t zuc_draw(uint32_t state[ZUC_STATE_WORDS], uint32_t *word)
 {
+    uint32_t index = state[INDEX];
+
+    /* fault 35: an index of 16 is accepted */
+    if (FAULT == 35 && index == 16)
+        state[INDEX] = 0;
     uint32_t refusal = right_zuc_draw(state, word);
-    if (refusal == 0 && state[15] == 0x7fffffff)
-        state[15] = 0;
+    if (refusal != 0 || index > 15)
+        return refusal;
+
+    /* fault 13: a cell of 0 in the place of 2^31 - 1 */
+    if (FAULT == 13 && state[index] == 0x7fffffff)
+        state[index] = 0;
+
+    /* fault 31: a draw writes two places */
+    if (FAULT == 31)
+        state[(index + 1) % 16] = state[index];
+
+    /* fault 32: a draw does not raise the index */
+    if (FAULT == 32)
+        state[INDEX] = index;
+
+    /* fault 33: a draw raises the index to 16 */
+    if (FAULT == 33 && index == 15)
+        state[INDEX] = 16;
+
+    /* fault 34: a draw moves the cells and not the index: the right cells, read from it */
+    if (FAULT == 34)
+        turn(state, index);
     return refusal;
 }
 #endif
 
-#if FAULT == 15
-/* fault 15: an empty update looks at nothing */
+#if FAULT == 15 || FAULT == 40
 uint32_t zuc128_tag_update(uint64_t state[ZUC_TAG_WORDS], const uint8_t *msg, size_t len)
 {
-    return len == 0 ? 0 : right_zuc128_tag_update(state, msg, len);
+    /* fault 15: an empty update looks at nothing */
+    if (FAULT == 15 && len == 0)
+        return 0;
+
+    /* fault 40: an update leaves the index as it came */
+    uint64_t index = state[TAG_INDEX];
+    uint32_t refusal = right_zuc128_tag_update(state, msg, len);
+    if (FAULT == 40)
+        state[TAG_INDEX] = index;
+    return refusal;
+}
+#endif
+
+#if FAULT == 41
+/* fault 41: the index of a tag state is cut to 32 bits */
+uint32_t zuc256_tag_update(uint64_t state[ZUC_TAG_WORDS], const uint8_t *msg, size_t len)
+{
+    state[TAG_INDEX] = (uint32_t)state[TAG_INDEX];
+    return right_zuc256_tag_update(state, msg, len);
 }
 #endif
 

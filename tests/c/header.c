@@ -3,23 +3,10 @@
  * every refusal with what it leaves, and null pointers with length 0.
  * Prints what differs; exits with 1 if anything does.
  */
+#include "check.h"
 #include "zuc.h"
 
-#include <stdio.h>
 #include <string.h>
-
-static int checks, failures;
-
-#define CHECK(fact) check((fact) != 0, #fact, __LINE__)
-
-static void check(int holds, const char *fact, int line)
-{
-    checks++;
-    if (!holds) {
-        failures++;
-        fprintf(stderr, "header.c:%d: not so: %s\n", line, fact);
-    }
-}
 
 static const uint8_t ones[32] = {
     0xff, 0xff, 0xff, 0xff, 0xff, 0xff, 0xff, 0xff, 0xff, 0xff, 0xff,

@@ -2,12 +2,17 @@
 //! links that they are lent. `capi` stands on this module and hands them on.
 
 /// Numbers in a generator's state: `ZUC_STATE_WORDS` of zuc.h.
-pub const STATE_WORDS: usize = 18;
+pub const STATE_WORDS: usize = 19;
 
 /// Numbers in a tag's state: `ZUC_TAG_WORDS` of zuc.h.
-pub const TAG_WORDS: usize = 19;
+pub const TAG_WORDS: usize = 20;
 
-/// A generator's state: the cells s0..s15, then R1, then R2.
+/// A generator's state: sixteen places, then R1, R2, and a start index of 0..15.
+///
+/// The cells stay put and are to be read from the index: cell j of the standard stands
+/// at place (index + j) mod 16. A start leaves index 0, and each word drawn raises it by
+/// one, from 15 back to 0. States that agree so read are one state: every call answers
+/// the same to them.
 pub type State = [u32; STATE_WORDS];
 
 /// A tag's state.

@@ -11,6 +11,7 @@ use compare::input::Input;
 use compare::plan::{self, SECTIONS};
 use compare::report::Report;
 use compare::rng::Rng;
+use compare::turns;
 use compare::walk::Walk;
 use compare::walks::{self, WALKS};
 
@@ -45,6 +46,7 @@ fn main() {
         while report.elapsed() < end {
             let log = rng.pick(&[6, 11, 11, 16, 20]);
             report.try_input(plan::random(&mut rng, log));
+            report.try_input(turns::random(&mut rng, log.min(14)));
         }
     }
     let same = report.end(options.seed);

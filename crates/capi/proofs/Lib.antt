@@ -1,3 +1,4 @@
+mod Indices
 pub mod Refusals
 pub mod Runs
 pub mod Theorems

@@ -5,8 +5,8 @@ use mathlib.Core.Bool.{Bool, true, false}
 use mathlib.Core.List.{List}
 use mathlib.Core.Path.{_≡_, refl}
 use Prim.Native.Nat.{ℕ, _*_, _^_, _<_}
-use Rattle.capi_arrays.proofs.Packing.{state-array, stored-array}
-use Rattle.capi_arrays.specs.Arrays.{arrayOf, regrouped, stateIn, storedIn, tagArrayOf}
+use Rattle.capi_arrays.proofs.Packing.{held-array, stored-array}
+use Rattle.capi_arrays.specs.Arrays.{arrayOf, heldIn, placed, regrouped, storedIn, tagArrayOf}
 use Rattle.capi.specs.Generators.{drawArray, maskArray, startArray, wordsArray}
 use Rattle.capi.specs.Tags.{ClosingArray, tagArray}
 use Rattle.keystream.specs.Draws.{drawOutcome, fillOutcome}
@@ -14,41 +14,42 @@ use Rattle.mac.specs.Calls.{closing, refusedTag, updateOutcome}
 use Rattle.keystream.specs.Starts.{refusedStart}
 use Rattle.standard.specs.Refusals.{badBits, badState, tested}
 use Rattle.mask.specs.Outcome.{Outcome, maskTested}
-use Rattle.standard.specs.States.{zeroStored, wellFormed, zeros}
+use Rattle.standard.specs.States.{heldFormed, zeroStored, zeros}
 use Rattle.standard.specs.Bits.{bitAt, bitOf, window}
 use Rattle.standard.specs.Notation.{_⟨_⟩, listed}
+use Rattle.zuc.specs.Reading.{placesOf}
 
-pub start-refused : (n : ℕ) → startArray (refusedStart n) ≡ record { number = n; array = replicate 18 0 }
-unfolding arrayOf zeros
+pub start-refused : (n : ℕ) → startArray (refusedStart n) ≡ record { number = n; array = replicate 19 0 }
+unfolding arrayOf placed placesOf zeros
 start-refused n = refl
 
-pub tag-start-refused : (n : ℕ) → tagArray (refusedTag n) ≡ record { number = n; array = replicate 19 0 }
-unfolding tagArrayOf zeroStored zeros arrayOf regrouped listed window bitAt bitOf
+pub tag-start-refused : (n : ℕ) → tagArray (refusedTag n) ≡ record { number = n; array = replicate 20 0 }
+unfolding tagArrayOf zeroStored zeros placed placesOf regrouped listed window bitAt bitOf
 tag-start-refused n = refl
 
-module _ (a : List ℕ) (full : length a ≡ 18) where
-  pub draw-refused : wellFormed (stateIn a .cells) ≡ false → drawArray (drawOutcome (stateIn a)) ≡ record { number = badState; word = 0; array = a }
+module _ (a : List ℕ) (full : length a ≡ 19) where
+  pub draw-refused : heldFormed (heldIn a) ≡ false → drawArray (drawOutcome (heldIn a)) ≡ record { number = badState; word = 0; array = a }
   unfolding drawOutcome tested
-  draw-refused e = rw e (λ i. record { number = badState; word = 0; array = state-array a full i })
+  draw-refused e = rw e (λ i. record { number = badState; word = 0; array = held-array a full i })
 
-  pub words-refused : (out : List ℕ) → wellFormed (stateIn a .cells) ≡ false
-      → wordsArray (fillOutcome (stateIn a) out) ≡ record { number = badState; array = a; buffer = out }
+  pub words-refused : (out : List ℕ) → heldFormed (heldIn a) ≡ false
+      → wordsArray (fillOutcome (heldIn a) out) ≡ record { number = badState; array = a; buffer = out }
   unfolding fillOutcome tested
-  words-refused out e = rw e (λ i. record { number = badState; array = state-array a full i; buffer = out })
+  words-refused out e = rw e (λ i. record { number = badState; array = held-array a full i; buffer = out })
 
   -- in either mode, whatever the mask would be
   module _ (bits : ℕ) (buf : List ℕ) (mask : Outcome) where
-    pub mask-bad-state : wellFormed (stateIn a .cells) ≡ false
-        → maskArray (maskTested (stateIn a) bits buf mask) ≡ record { number = badState; count = 0; array = a; buffer = buf }
+    pub mask-bad-state : heldFormed (heldIn a) ≡ false
+        → maskArray (maskTested (heldIn a) bits buf mask) ≡ record { number = badState; count = 0; array = a; buffer = buf }
     unfolding maskTested tested
-    mask-bad-state e = rw e (λ i. record { number = badState; count = 0; array = state-array a full i; buffer = buf })
+    mask-bad-state e = rw e (λ i. record { number = badState; count = 0; array = held-array a full i; buffer = buf })
 
-    pub mask-bad-bits : wellFormed (stateIn a .cells) ≡ true → leb bits (length buf * 8) ≡ false
-        → maskArray (maskTested (stateIn a) bits buf mask) ≡ record { number = badBits; count = 0; array = a; buffer = buf }
+    pub mask-bad-bits : heldFormed (heldIn a) ≡ true → leb bits (length buf * 8) ≡ false
+        → maskArray (maskTested (heldIn a) bits buf mask) ≡ record { number = badBits; count = 0; array = a; buffer = buf }
     unfolding maskTested tested
-    mask-bad-bits e l = rw (e, l) (λ i. record { number = badBits; count = 0; array = state-array a full i; buffer = buf })
+    mask-bad-bits e l = rw (e, l) (λ i. record { number = badBits; count = 0; array = held-array a full i; buffer = buf })
 
-module _ (a : List ℕ) (full : length a ≡ 19) (fits : (k : ℕ) → k < length a → a ⟨ k ⟩ < 2 ^ 64) where
+module _ (a : List ℕ) (full : length a ≡ 20) (fits : (k : ℕ) → k < length a → a ⟨ k ⟩ < 2 ^ 64) where
   pub update-refused : (ok : Bool) (message : List ℕ) → ok ≡ false
       → tagArray (updateOutcome ok (storedIn a) message) ≡ record { number = badState; array = a }
   unfolding updateOutcome tested

@@ -2,6 +2,7 @@
 use mathlib.Core.List.{List}
 use mathlib.Core.Path.{_≡_, refl, sym, ap, _∙_, subst}
 use Prim.Native.Nat.{ℕ, _*_, _<_}
+use lib.Dec.{lit<}
 use Rattle.capi_arrays.proofs.Fitting.{small-EIA3, small-ZUC256}
 use Rattle.capi.proofs.Runs.{Holds, inside, outside}
 use Rattle.capi.specs.Runs.{ArrayTagged-128, ArrayTagged-256, TwoComputed-128, TwoComputed-EIA3, firstWord}
@@ -22,6 +23,7 @@ use Rattle.standard.specs.Generator.{State, keystream, started}
 use Rattle.standard.specs.Integrity.{IV-EIA3, T, tag-EIA3, tag-ZUC256}
 use Rattle.standard.specs.Loading.{load₁₂₈, load₂₅₆, rowOf}
 use Rattle.standard.specs.Notation.{_⊕_}
+use Rattle.standard.specs.States.{fromZero}
 use Rattle.zuc_loading.proofs.Loaded.{Bytes, cells-128, cells-256}
 
 -- a one-shot's tag of two words is the inner one-shot's
@@ -43,8 +45,8 @@ module _ (key iv : List ℕ) (hk : Bytes key) (hv : Bytes iv) where
   held-128 e =
       let loaded : State = load₁₂₈ key iv in
       record {
-        st = begun-EIA3 (started loaded);
-        good = good-EIA3 (started loaded) (sound-started loaded (cells-128 key iv hk hv));
+        st = begun-EIA3 (fromZero (started loaded));
+        good = good-EIA3 (fromZero (started loaded)) (record { cells = sound-started loaded (cells-128 key iv hk hv); start = lit< tt });
         small = small-EIA3 loaded;
         packs = start-128 key iv begun-128 refl e;
       }
@@ -146,8 +148,10 @@ module _ (w : ℕ) (key iv : List ℕ) (hk : Bytes key) (hv : Bytes iv) where
   held-256 e =
       let is = start-256 w key iv begun-256 refl e in
       record {
-        st = begun-ZUC256 (w * 8) (started loaded-256);
-        good = good-ZUC256 (is .0) (started loaded-256) (sound-started loaded-256 (cells-256 (rowOf w) key iv (row-of w) hk hv));
+        st = begun-ZUC256 (w * 8) (fromZero (started loaded-256));
+        good =
+            good-ZUC256 (is .0) (fromZero (started loaded-256))
+            (record { cells = sound-started loaded-256 (cells-256 (rowOf w) key iv (row-of w) hk hv); start = lit< tt });
         small = small-ZUC256 (w * 8) loaded-256;
         packs = is .1;
       }

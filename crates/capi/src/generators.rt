@@ -2,26 +2,29 @@
 // back: on a refusal that is the state as it came.
 ghost use mathlib.Core.List.{List};
 ghost use mathlib.Core.Path.{_≡_};
-ghost use Prim.Native.Nat.{ℕ};
-ghost use Rattle.capi_arrays.specs.Arrays.{stateIn};
+ghost use Prim.Native.Nat.{ℕ, _^_, _<_};
+ghost use Rattle.capi_arrays.specs.Arrays.{heldIn};
 ghost use Rattle.capi.specs.Generators.{drawArray, maskArray, startArray, wordsArray};
 ghost use Rattle.keystream.specs.Draws.{drawOutcome, fillOutcome};
 ghost use Rattle.keystream.specs.Starts.{startTold, start₁₂₈, start₂₅₆, start-EEA3};
 ghost use Rattle.mask.specs.Outcome.{cleanOutcome, crateOutcome, told};
 ghost use Rattle.standard.specs.Loading.{d-keystream};
-use capi_answers::draw_number;
-use capi_answers::draw_word;
+use capi_answers::ACCEPTED;
+use capi_answers::BAD_STATE;
 use capi_answers::fill_number;
 use capi_answers::mask_count;
 use capi_answers::mask_number;
 use capi_answers::start_number;
 use capi_arrays::array_of;
 use capi_arrays::state_in;
+use capi_draw::draw_in;
+use capi_draw::is_formed;
 use keystream::Start;
 use mask::Masked;
 
 // What a start hands back goes into the array: zeros, where it was refused.
-fn put_start(state: &mut [u32; 18], start: Start) -> u32
+fn put_start(state: &mut [u32; 19], start: Start) -> u32
+    requires { ⌜ start .state .start < 2 ^ 32 ⌝ }
     ensures { λ r. ⌜ record { number = r; array = now (state .exit) } ≡ startArray (startTold start) ⌝ }
 {
     let z = start.state;
@@ -32,7 +35,7 @@ fn put_start(state: &mut [u32; 18], start: Start) -> u32
 
 // A ZUC-128 generator, or BAD_KEY, BAD_IV.
 #[no_mangle]
-pub extern "C" fn zuc128_start(state: &mut [u32; 18], key: &[u8], iv: &[u8]) -> u32
+pub extern "C" fn zuc128_start(state: &mut [u32; 19], key: &[u8], iv: &[u8]) -> u32
     ensures { λ r. ⌜ record { number = r; array = now (state .exit) } ≡ startArray (start₁₂₈ (now (key .entry)) (now (iv .entry))) ⌝ }
 {
     put_start(state, keystream::zuc128::new(key, iv))
@@ -40,7 +43,7 @@ pub extern "C" fn zuc128_start(state: &mut [u32; 18], key: &[u8], iv: &[u8]) -> 
 
 // A ZUC-256 generator, or BAD_KEY, BAD_IV.
 #[no_mangle]
-pub extern "C" fn zuc256_start(state: &mut [u32; 18], key: &[u8], iv: &[u8]) -> u32
+pub extern "C" fn zuc256_start(state: &mut [u32; 19], key: &[u8], iv: &[u8]) -> u32
     ensures { λ r. ⌜ record { number = r; array = now (state .exit) } ≡ startArray (start₂₅₆ d-keystream (now (key .entry)) (now (iv .entry))) ⌝ }
 {
     put_start(state, keystream::zuc256::new(key, iv))
@@ -49,7 +52,7 @@ pub extern "C" fn zuc256_start(state: &mut [u32; 18], key: &[u8], iv: &[u8]) -> 
 // A generator of the EEA3 keystream, or BAD_KEY.
 #[no_mangle]
 pub extern "C" fn eea3_start(
-    state: &mut [u32; 18],
+    state: &mut [u32; 19],
     count: u32,
     bearer: u8,
     direction: u8,
@@ -60,23 +63,23 @@ pub extern "C" fn eea3_start(
     put_start(state, keystream::eea3::new(count, bearer, direction, key))
 }
 
-// The next word, or BAD_STATE.
+// The next word, or BAD_STATE. The draw is made in the array itself.
 #[no_mangle]
-pub extern "C" fn zuc_draw(state: &mut [u32; 18], word: &mut u32) -> u32
-    ensures { λ r. ⌜ record { number = r; word = now (word .exit); array = now (state .exit) } ≡ drawArray (drawOutcome (stateIn (now (state .entry)))) ⌝ }
+pub extern "C" fn zuc_draw(state: &mut [u32; 19], word: &mut u32) -> u32
+    ensures { λ r. ⌜ record { number = r; word = now (word .exit); array = now (state .exit) } ≡ drawArray (drawOutcome (heldIn (now (state .entry)))) ⌝ }
 {
-    let drew = keystream::generate(state_in(*state));
-    let next = drew.state;
-    let answer = drew.answer;
-    *state = array_of(next);
-    *word = draw_word(answer);
-    draw_number(answer)
+    *word = 0;
+    if !is_formed(state) {
+        return BAD_STATE;
+    }
+    *word = draw_in(state);
+    ACCEPTED
 }
 
 // The next words, as many as are lent, or BAD_STATE.
 #[no_mangle]
-pub extern "C" fn zuc_words(state: &mut [u32; 18], out: &mut [u32]) -> u32
-    ensures { λ r. ⌜ record { number = r; array = now (state .exit); buffer = now (out .exit) } ≡ wordsArray (fillOutcome (stateIn (now (state .entry))) (now (out .entry))) ⌝ }
+pub extern "C" fn zuc_words(state: &mut [u32; 19], out: &mut [u32]) -> u32
+    ensures { λ r. ⌜ record { number = r; array = now (state .exit); buffer = now (out .exit) } ≡ wordsArray (fillOutcome (heldIn (now (state .entry))) (now (out .entry))) ⌝ }
 {
     let filling = keystream::fill(state_in(*state), out);
     let next = filling.state;
@@ -86,7 +89,8 @@ pub extern "C" fn zuc_words(state: &mut [u32; 18], out: &mut [u32]) -> u32
 }
 
 // What a masking call hands back goes into the array and the count, whatever its buffer became.
-fn put_mask(masked: Masked, state: &mut [u32; 18], count: &mut usize) -> u32
+fn put_mask(masked: Masked, state: &mut [u32; 19], count: &mut usize) -> u32
+    requires { ⌜ masked .state .start < 2 ^ 32 ⌝ }
     ensures { λ r. ⌜ ((buffer : List ℕ) → record { number = r; count = now (count .exit); array = now (state .exit); buffer = buffer } ≡ maskArray (told masked buffer)) ⌝ }
 {
     let next = masked.state;
@@ -99,12 +103,12 @@ fn put_mask(masked: Masked, state: &mut [u32; 18], count: &mut usize) -> u32
 // A mask as the crate does it, or BAD_STATE, BAD_BITS.
 #[no_mangle]
 pub extern "C" fn zuc_mask_crate(
-    state: &mut [u32; 18],
+    state: &mut [u32; 19],
     buf: &mut [u8],
     bits: usize,
     count: &mut usize,
 ) -> u32
-    ensures { λ r. ⌜ record { number = r; count = now (count .exit); array = now (state .exit); buffer = now (buf .exit) } ≡ maskArray (crateOutcome (stateIn (now (state .entry))) bits (now (buf .entry))) ⌝ }
+    ensures { λ r. ⌜ record { number = r; count = now (count .exit); array = now (state .exit); buffer = now (buf .exit) } ≡ maskArray (crateOutcome (heldIn (now (state .entry))) bits (now (buf .entry))) ⌝ }
 {
     let masked = mask::mask_crate(state_in(*state), buf, bits);
     put_mask(masked, state, count)
@@ -113,12 +117,12 @@ pub extern "C" fn zuc_mask_crate(
 // A mask with every bit past the length zeroed, or BAD_STATE, BAD_BITS.
 #[no_mangle]
 pub extern "C" fn zuc_mask_clean(
-    state: &mut [u32; 18],
+    state: &mut [u32; 19],
     buf: &mut [u8],
     bits: usize,
     count: &mut usize,
 ) -> u32
-    ensures { λ r. ⌜ record { number = r; count = now (count .exit); array = now (state .exit); buffer = now (buf .exit) } ≡ maskArray (cleanOutcome (stateIn (now (state .entry))) bits (now (buf .entry))) ⌝ }
+    ensures { λ r. ⌜ record { number = r; count = now (count .exit); array = now (state .exit); buffer = now (buf .exit) } ≡ maskArray (cleanOutcome (heldIn (now (state .entry))) bits (now (buf .entry))) ⌝ }
 {
     let masked = mask::mask_clean(state_in(*state), buf, bits);
     put_mask(masked, state, count)

@@ -26,7 +26,7 @@ use mac::UpdateAnswer;
 use mac_registers::TagState;
 
 // What a start hands back goes into the array: zeros, where it was refused.
-fn put_start(state: &mut [u64; 19], answer: StartAnswer, s: TagState) -> u32
+fn put_start(state: &mut [u64; 20], answer: StartAnswer, s: TagState) -> u32
     ensures { λ r. ⌜ record { number = r; array = now (state .exit) } ≡ tagArray (record { number = startNumber answer; state = storedOf s }) ⌝ }
 {
     *state = tag_array_of(s);
@@ -35,7 +35,7 @@ fn put_start(state: &mut [u64; 19], answer: StartAnswer, s: TagState) -> u32
 
 // A ZUC-128 tag state, or BAD_KEY, BAD_IV.
 #[no_mangle]
-pub extern "C" fn zuc128_tag_start(state: &mut [u64; 19], key: &[u8], iv: &[u8]) -> u32
+pub extern "C" fn zuc128_tag_start(state: &mut [u64; 20], key: &[u8], iv: &[u8]) -> u32
     ensures { λ r. ⌜ record { number = r; array = now (state .exit) } ≡ tagArray (startOutcome-128 (now (key .entry)) (now (iv .entry))) ⌝ }
 {
     let start = mac::zuc128::new(key, iv);
@@ -48,7 +48,7 @@ pub extern "C" fn zuc128_tag_start(state: &mut [u64; 19], key: &[u8], iv: &[u8])
 // An EIA3 tag state, or BAD_KEY.
 #[no_mangle]
 pub extern "C" fn eia3_tag_start(
-    state: &mut [u64; 19],
+    state: &mut [u64; 20],
     count: u32,
     bearer: u8,
     direction: u8,
@@ -66,7 +66,7 @@ pub extern "C" fn eia3_tag_start(
 // A ZUC-256 tag state of a width in bytes, or BAD_WIDTH, BAD_KEY, BAD_IV.
 #[no_mangle]
 pub extern "C" fn zuc256_tag_start(
-    state: &mut [u64; 19],
+    state: &mut [u64; 20],
     width: usize,
     key: &[u8],
     iv: &[u8],
@@ -81,7 +81,7 @@ pub extern "C" fn zuc256_tag_start(
 }
 
 // What an update hands back goes into the array.
-fn put_update(state: &mut [u64; 19], answer: UpdateAnswer, s: TagState) -> u32
+fn put_update(state: &mut [u64; 20], answer: UpdateAnswer, s: TagState) -> u32
     ensures { λ r. ⌜ record { number = r; array = now (state .exit) } ≡ tagArray (record { number = updateNumber answer; state = storedOf s }) ⌝ }
 {
     *state = tag_array_of(s);
@@ -90,7 +90,7 @@ fn put_update(state: &mut [u64; 19], answer: UpdateAnswer, s: TagState) -> u32
 
 // More bytes of a message, of ZUC-128 or EIA3, or BAD_STATE.
 #[no_mangle]
-pub extern "C" fn zuc128_tag_update(state: &mut [u64; 19], msg: &[u8]) -> u32
+pub extern "C" fn zuc128_tag_update(state: &mut [u64; 20], msg: &[u8]) -> u32
     ensures { λ r. ⌜ record { number = r; array = now (state .exit) } ≡ tagArray (updateOutcome (formed-128 (storedIn (now (state .entry)))) (storedIn (now (state .entry))) (now (msg .entry))) ⌝ }
 {
     let before = tag_state_in(*state);
@@ -103,7 +103,7 @@ pub extern "C" fn zuc128_tag_update(state: &mut [u64; 19], msg: &[u8]) -> u32
 
 // More bytes of a message, of ZUC-256, or BAD_STATE.
 #[no_mangle]
-pub extern "C" fn zuc256_tag_update(state: &mut [u64; 19], msg: &[u8]) -> u32
+pub extern "C" fn zuc256_tag_update(state: &mut [u64; 20], msg: &[u8]) -> u32
     ensures { λ r. ⌜ record { number = r; array = now (state .exit) } ≡ tagArray (updateOutcome (formed (storedIn (now (state .entry)))) (storedIn (now (state .entry))) (now (msg .entry))) ⌝ }
 {
     let before = tag_state_in(*state);
@@ -117,7 +117,7 @@ pub extern "C" fn zuc256_tag_update(state: &mut [u64; 19], msg: &[u8]) -> u32
 // The tag of ZUC-128 or EIA3, and a state of zeros, or BAD_STATE, BAD_BITS.
 #[no_mangle]
 pub extern "C" fn zuc128_tag_finish(
-    state: &mut [u64; 19],
+    state: &mut [u64; 20],
     tail: &[u8],
     bits: usize,
     tag: &mut [u64; 2],
@@ -137,7 +137,7 @@ pub extern "C" fn zuc128_tag_finish(
 // The tag of ZUC-256, and a state of zeros, or BAD_STATE, BAD_BITS.
 #[no_mangle]
 pub extern "C" fn zuc256_tag_finish(
-    state: &mut [u64; 19],
+    state: &mut [u64; 20],
     tail: &[u8],
     bits: usize,
     tag: &mut [u64; 2],

@@ -16,9 +16,9 @@ use Rattle.mac_registers.specs.Stored.{keyWords, packed, tagWords}
 use Rattle.mac_registers.specs.Tagging.{Tagging, absorbed, begun-EIA3, begun-ZUC256, fed, updated}
 use Rattle.standard.proofs.Cells.{Cells}
 use Rattle.standard.proofs.Permutation.{S₀-permutation, S₁-permutation}
-use Rattle.standard.specs.Generator.{F, S, State, after, initialised, next, started, workStep}
+use Rattle.standard.specs.Generator.{F, S, State, initialised, next, started, workStep}
 use Rattle.standard.specs.Notation.{_⟨_⟩, if_then_else_}
-use Rattle.standard.specs.States.{Stored}
+use Rattle.standard.specs.States.{Held, Stored, fromZero, moved}
 
 -- registers of 32 bits: those of every state at rest
 abbrev Registers : State → Type 0
@@ -43,23 +43,24 @@ registers-started : (loaded : State) → Registers (started loaded)
 unfolding started
 registers-started loaded = registers-F (initialised 32 loaded)
 
-registers-after : (n : ℕ) (σ : State) → Registers σ → Registers (after n σ)
-unfolding after next
-registers-after zero σ h = h
-registers-after (suc n) σ h = registers-F (workStep (after n σ))
+registers-moved : (n : ℕ) (h : Held) → Registers (h .meaning) → Registers (moved n h .meaning)
+unfolding moved next
+registers-moved zero h r = r
+registers-moved (suc n) h r = registers-F (workStep (moved n h .meaning))
 
 -- what an array has room for
 pub record Small (st : Tagging) : Type 0 where
-  pub registers : Registers (st .generator)
+  pub registers : Registers (st .generator .meaning)
   pub waiting : (k : ℕ) → st .waiting ⟨ k ⟩ < 2 ^ 8
 
-pub small-EIA3 : (loaded : State) → Small (begun-EIA3 (started loaded))
+pub small-EIA3 : (loaded : State) → Small (begun-EIA3 (fromZero (started loaded)))
 unfolding begun-EIA3
-small-EIA3 loaded = record { registers = registers-after 2 (started loaded) (registers-started loaded); waiting = λ k. lit< tt }
+small-EIA3 loaded = record { registers = registers-moved 2 (fromZero (started loaded)) (registers-started loaded); waiting = λ k. lit< tt }
 
-pub small-ZUC256 : (t : ℕ) (loaded : State) → Small (begun-ZUC256 t (started loaded))
+pub small-ZUC256 : (t : ℕ) (loaded : State) → Small (begun-ZUC256 t (fromZero (started loaded)))
 unfolding begun-ZUC256
-small-ZUC256 t loaded = record { registers = registers-after (3 * (t / 32)) (started loaded) (registers-started loaded); waiting = λ k. lit< tt }
+small-ZUC256 t loaded =
+    record { registers = registers-moved (3 * (t / 32)) (fromZero (started loaded)) (registers-started loaded); waiting = λ k. lit< tt }
 
 one-byte : (b : ℕ) → b < 2 ^ 8 → (k : ℕ) → (b ∷ []) ⟨ k ⟩ < 2 ^ 8
 one-byte b h zero = h
@@ -74,7 +75,7 @@ small-absorbed t {st} b h s = by (ltb (suc (length (st .waiting)) * 8) t)
 
     by : (waits : Bool) → Small (if waits then longer else fed t st (st .waiting ++ (b ∷ [])))
     by true = record { registers = s .registers; waiting = append-fits (λ (x : ℕ). x < 2 ^ 8) (st .waiting) (b ∷ []) (s .waiting) (one-byte b h) }
-    by false = record { registers = registers-after (t / 32) (st .generator) (s .registers); waiting = λ k. lit< tt }
+    by false = record { registers = registers-moved (t / 32) (st .generator) (s .registers); waiting = λ k. lit< tt }
 
 pub small-updated : (t : ℕ) (m : List ℕ) → ((k : ℕ) → m ⟨ k ⟩ < 2 ^ 8) → {st : Tagging} → Small st → Small (updated t st m)
 unfolding updated
@@ -107,8 +108,8 @@ unfolding packed
 packed-fits {w} {st} g s =
     let n = length (st .waiting) in
     record {
-      cells-full = g .sound .full;
-      cells = cells-fit (g .sound);
+      cells-full = g .sound .cells .full;
+      cells = cells-fit (g .sound .cells);
       R₁ = s .registers .0;
       R₂ = s .registers .1;
       key-full = four-keys (g .a-width) (st .key);

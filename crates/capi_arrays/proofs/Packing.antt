@@ -1,17 +1,18 @@
 -- A state goes into its array and comes back as it was, and an array into a state and back; by their entries written out.
 use lib.Dec.{lit<}
-use lib.ListN.{drop, length, length-append, length-drop, take}
-use lib.Seq.{ext-getD, getD-append-add, getD-at, getD-drop, getD-take, length-take-le, take-at}
+use lib.ListN.{List·getD-append, drop, length, length-append, length-drop, take}
+use lib.Seq.{ext-getD, getD-append-add, getD-at, getD-drop, getD-take, length-take-le, take-append-le, take-at}
 use mathlib.Core.List.{List, [], _∷_, _++_}
 use mathlib.Core.Path.{_≡_, refl, sym, ap, _∙_, subst}
 use native.Mathlib.Omega.{arith}
-use Prim.Native.Nat.{ℕ, zero, suc, _+_, _*_, _^_, _<_, _≤_}
+use Prim.Native.Nat.{ℕ, zero, suc, _+_, _-_, _*_, _^_, _<_, _≤_}
 use Rattle.capi_arrays.proofs.Regrouped.{regrouped-back, regrouped-length}
-use Rattle.capi_arrays.specs.Arrays.{arrayOf, regrouped, stateIn, storedIn, tagArrayOf}
-use Rattle.standard.specs.States.{Stored}
+use Rattle.capi_arrays.specs.Arrays.{arrayOf, heldFrom, heldIn, placed, regrouped, storedIn, tagArrayOf}
+use Rattle.standard.specs.States.{Held, Stored}
 use Rattle.standard.proofs.Listed.{getD-listed, is-listed, length-listed}
-use Rattle.standard.specs.Generator.{State}
 use Rattle.standard.specs.Notation.{_⟨_⟩, listed}
+use Rattle.zuc.proofs.Turning.{cells-back, length-places, places-back}
+use Rattle.zuc.specs.Reading.{cellsFrom, placesOf}
 
 -- a part of a list, written out
 pub part-listed : (a : List ℕ) (from n : ℕ) → from + n ≤ length a → listed (λ k. a ⟨ k ⟩) from n ≡ take n (drop from a)
@@ -26,23 +27,61 @@ part-listed a from n h =
 pub all-listed : (a : List ℕ) (n : ℕ) → length a ≡ n → listed (λ k. a ⟨ k ⟩) 0 n ≡ a
 all-listed a n e = sym (is-listed (λ k. a ⟨ k ⟩) a n e (λ k h. refl))
 
--- generators
-pub state-array : (a : List ℕ) → length a ≡ 18 → arrayOf (stateIn a) ≡ a
-unfolding arrayOf stateIn listed
-state-array a e = ap (λ (s : List ℕ). s ++ (a ⟨ 16 ⟩ ∷ a ⟨ 17 ⟩ ∷ [])) (sym (part-listed a 0 16 (omega arith))) ∙ all-listed a 18 e
-
-pub array-state : (σ : State) → length (σ .cells) ≡ 16 → stateIn (arrayOf σ) ≡ σ
-unfolding arrayOf stateIn
-array-state σ e =
+-- places and registers, and what is held, whatever the index
+pub from-placed : (h : Held) → length (h .meaning .cells) ≡ 16 → heldFrom (h .start) (placed h) ≡ h
+unfolding placed heldFrom
+from-placed h e =
+    let σ = h .meaning in
+    let places : List ℕ = placesOf (h .start) (σ .cells) in
+    let full : length places ≡ 16 = length-places (h .start) (σ .cells) ∙ e in
     λ i. record {
-      cells = take-at (σ .cells) (σ .R₁ ∷ σ .R₂ ∷ []) 16 e i;
-      R₁ = getD-at (σ .cells) (σ .R₁) (σ .R₂ ∷ []) 0 16 e i;
-      R₂ = (ap (λ (n : ℕ). (σ .cells ++ (σ .R₁ ∷ σ .R₂ ∷ [])) ⟨ n + 1 ⟩) (sym e) ∙ getD-append-add (σ .cells) (σ .R₁ ∷ σ .R₂ ∷ []) 1 0) i;
+      meaning =
+          record {
+            cells = (ap (cellsFrom (h .start)) (take-at places (σ .R₁ ∷ σ .R₂ ∷ []) 16 full) ∙ cells-back (h .start) (σ .cells)) i;
+            R₁ = getD-at places (σ .R₁) (σ .R₂ ∷ []) 0 16 full i;
+            R₂ = (ap (λ (n : ℕ). (places ++ (σ .R₁ ∷ σ .R₂ ∷ [])) ⟨ n + 1 ⟩) (sym full) ∙ getD-append-add places (σ .R₁ ∷ σ .R₂ ∷ []) 1 0) i;
+          };
+      start = h .start;
     }
 
-pub array-length : (σ : State) → length (σ .cells) ≡ 16 → length (arrayOf σ) ≡ 18
-unfolding arrayOf
-array-length σ e = length-append (σ .cells) (σ .R₁ ∷ σ .R₂ ∷ []) ∙ ap (λ (n : ℕ). n + 2) e
+-- the first eighteen of so many words
+pub placed-from : (start : ℕ) (a : List ℕ) → 18 ≤ length a → placed (heldFrom start a) ≡ listed (λ k. a ⟨ k ⟩) 0 18
+unfolding placed heldFrom listed
+placed-from start a h =
+    ap (λ (s : List ℕ). s ++ (a ⟨ 16 ⟩ ∷ a ⟨ 17 ⟩ ∷ [])) (places-back start (take 16 a) ∙ sym (part-listed a 0 16 (omega arith)))
+
+pub placed-length : (h : Held) → length (h .meaning .cells) ≡ 16 → length (placed h) ≡ 18
+unfolding placed
+placed-length h e =
+    length-append (placesOf (h .start) (h .meaning .cells)) (h .meaning .R₁ ∷ h .meaning .R₂ ∷ [])
+    ∙ ap (λ (n : ℕ). n + 2) (length-places (h .start) (h .meaning .cells) ∙ e)
+
+-- generators
+pub held-array : (a : List ℕ) → length a ≡ 19 → arrayOf (heldIn a) ≡ a
+unfolding arrayOf heldIn listed heldFrom
+held-array a e = ap (λ (s : List ℕ). s ++ (a ⟨ 18 ⟩ ∷ [])) (placed-from (a ⟨ 18 ⟩) a (omega arith)) ∙ all-listed a 19 e
+
+-- only the first eighteen words are read
+front : (start : ℕ) (a b : List ℕ) → length a ≡ 18 → heldFrom start (a ++ b) ≡ heldFrom start a
+unfolding heldFrom
+front start a b full =
+    λ i. record {
+      meaning =
+          record {
+            cells = cellsFrom start (take-append-le 16 a b (omega arith) i);
+            R₁ = List·getD-append a b 0 16 (omega arith) i;
+            R₂ = List·getD-append a b 0 17 (omega arith) i;
+          };
+      start = start;
+    }
+
+pub array-held : (h : Held) → length (h .meaning .cells) ≡ 16 → heldIn (arrayOf h) ≡ h
+unfolding arrayOf heldIn
+array-held h e =
+    let full = placed-length h e in
+    ap (λ (n : ℕ). heldFrom n (placed h ++ (h .start ∷ []))) (getD-at (placed h) (h .start) [] 0 18 full)
+    ∙ front (h .start) (placed h) (h .start ∷ []) full
+    ∙ from-placed h e
 
 -- a number out of two lists, by what holds of each entry of both and of 0
 pub append-fits : (P : ℕ → Type 0) (xs ys : List ℕ) → ((k : ℕ) → P (xs ⟨ k ⟩)) → ((k : ℕ) → P (ys ⟨ k ⟩)) → (k : ℕ) → P ((xs ++ ys) ⟨ k ⟩)
@@ -50,12 +89,23 @@ append-fits P [] ys px py k = py k
 append-fits P (x ∷ xs) ys px py zero = px 0
 append-fits P (x ∷ xs) ys px py (suc k) = append-fits P xs ys (λ j. px (suc j)) py k
 
+-- and out of a part of one
+take-fits : (P : ℕ → Type 0) → P 0 → (n : ℕ) (xs : List ℕ) → ((k : ℕ) → P (xs ⟨ k ⟩)) → (k : ℕ) → P (take n xs ⟨ k ⟩)
+take-fits P none zero xs px k = none
+take-fits P none (suc n) [] px k = none
+take-fits P none (suc n) (x ∷ xs) px zero = px 0
+take-fits P none (suc n) (x ∷ xs) px (suc k) = take-fits P none n xs (λ j. px (suc j)) k
+
+-- so of cells that stay put, or are read
+pub turned-fits : (P : ℕ → Type 0) → P 0 → (n : ℕ) (s : List ℕ) → ((k : ℕ) → P (s ⟨ k ⟩)) → (k : ℕ) → P ((drop n s ++ take n s) ⟨ k ⟩)
+turned-fits P none n s ps = append-fits P (drop n s) (take n s) (λ k. subst P (sym (getD-drop n s k 0)) (ps (n + k))) (take-fits P none n s ps)
+
 -- what holds of every struct by the types of its fields
 pub record Fit (s : Stored) : Type 0 where
-  pub cells-full : length (s .generator .cells) ≡ 16
-  pub cells : (k : ℕ) → s .generator .cells ⟨ k ⟩ < 2 ^ 32
-  pub R₁ : s .generator .R₁ < 2 ^ 32
-  pub R₂ : s .generator .R₂ < 2 ^ 32
+  pub cells-full : length (s .generator .meaning .cells) ≡ 16
+  pub cells : (k : ℕ) → s .generator .meaning .cells ⟨ k ⟩ < 2 ^ 32
+  pub R₁ : s .generator .meaning .R₁ < 2 ^ 32
+  pub R₂ : s .generator .meaning .R₂ < 2 ^ 32
   pub key-full : length (s .key) ≡ 4
   pub tag-full : length (s .tag) ≡ 2
   pub rem-full : length (s .rem) ≡ 16
@@ -66,12 +116,20 @@ registers-fit a b ha hb zero = ha
 registers-fit a b ha hb (suc zero) = hb
 registers-fit a b ha hb (suc (suc k)) = lit< tt
 
+placed-fits : (s : Stored) → Fit s → (k : ℕ) → placed (s .generator) ⟨ k ⟩ < 2 ^ 32
+unfolding placed placesOf
+placed-fits s fit =
+    let h = s .generator in
+    append-fits (λ (x : ℕ). x < 2 ^ 32) (placesOf (h .start) (h .meaning .cells)) (h .meaning .R₁ ∷ h .meaning .R₂ ∷ [])
+    (turned-fits (λ (x : ℕ). x < 2 ^ 32) (lit< tt) (length (h .meaning .cells) - h .start) (h .meaning .cells) (fit .cells))
+    (registers-fit (h .meaning .R₁) (h .meaning .R₂) (fit .R₁) (fit .R₂))
+
 pub array-stored : (s : Stored) → Fit s → storedIn (tagArrayOf s) ≡ s
-unfolding tagArrayOf storedIn arrayOf regrouped listed
+unfolding tagArrayOf storedIn regrouped listed
 array-stored s fit =
     (λ i. storedIn (tagArrayOf (record { generator = g; key = sym key i; tag = sym tag i; rem = s .rem; cnt = s .cnt; width = s .width })))
     ∙ (λ i. record {
-      generator = (ap stateIn words ∙ array-state g (fit .cells-full)) i;
+      generator = (ap (heldFrom (g .start)) words ∙ from-placed g (fit .cells-full)) i;
       key = key i;
       tag = tag i;
       rem = regrouped-back 8 64 2 16 (lit< tt) (lit< tt) refl (s .rem) (fit .rem-full) (λ k h. fit .rem k) i;
@@ -79,7 +137,7 @@ array-stored s fit =
       width = s .width;
     })
   where
-    g : State
+    g : Held
     g = s .generator
 
     key : listed (λ k. s .key ⟨ k ⟩) 0 4 ≡ s .key
@@ -88,10 +146,8 @@ array-stored s fit =
     tag : listed (λ k. s .tag ⟨ k ⟩) 0 2 ≡ s .tag
     tag = all-listed (s .tag) 2 (fit .tag-full)
 
-    words : regrouped 64 32 18 (regrouped 32 64 9 (arrayOf g)) ≡ arrayOf g
-    words =
-        regrouped-back 32 64 9 18 (lit< tt) (lit< tt) refl (arrayOf g) (array-length g (fit .cells-full))
-        (λ k h. append-fits (λ (x : ℕ). x < 2 ^ 32) (g .cells) (g .R₁ ∷ g .R₂ ∷ []) (fit .cells) (registers-fit (g .R₁) (g .R₂) (fit .R₁) (fit .R₂)) k)
+    words : regrouped 64 32 18 (regrouped 32 64 9 (placed g)) ≡ placed g
+    words = regrouped-back 32 64 9 18 (lit< tt) (lit< tt) refl (placed g) (placed-length g (fit .cells-full)) (λ k h. placed-fits s fit k)
 
 -- a part of an array grouped anew and back, in numbers of 64 bits
 part-back : (n c d from : ℕ) → 0 < n → c * n ≡ d * 64 → (a : List ℕ) → from + d ≤ length a → ((k : ℕ) → k < length a → a ⟨ k ⟩ < 2 ^ 64)
@@ -100,17 +156,20 @@ part-back n c d from pos same a h fits =
     regrouped-back 64 n c d (lit< tt) pos same (take d (drop from a)) (length-take-le d (drop from a) (omega (arith, length-drop from a)))
     (λ k l. subst (λ (x : ℕ). x < 2 ^ 64) (sym (getD-take d (drop from a) k 0 l ∙ getD-drop from a k 0)) (fits (from + k) (omega arith)))
 
-pub stored-array : (a : List ℕ) → length a ≡ 19 → ((k : ℕ) → k < length a → a ⟨ k ⟩ < 2 ^ 64) → tagArrayOf (storedIn a) ≡ a
-unfolding tagArrayOf storedIn listed
+pub stored-array : (a : List ℕ) → length a ≡ 20 → ((k : ℕ) → k < length a → a ⟨ k ⟩ < 2 ^ 64) → tagArrayOf (storedIn a) ≡ a
+unfolding tagArrayOf storedIn listed heldFrom
 stored-array a e fits =
-    (λ i. (ap (regrouped 32 64 9) (state-array halves halves-length) ∙ part-back 32 18 9 0 (lit< tt) refl a (omega arith) fits ∙ sym (part-listed a 0 9 (omega arith))) i
-    ++ (sym (part-listed a 9 4 (omega arith)) i
-    ++ (sym (part-listed a 13 2 (omega arith)) i
-    ++ ((part-back 8 16 2 15 (lit< tt) refl a (omega arith) fits ∙ sym (part-listed a 15 2 (omega arith))) i ++ (a ⟨ 17 ⟩ ∷ a ⟨ 18 ⟩ ∷ [])))))
-    ∙ all-listed a 19 e
+    (λ i. (ap (regrouped 32 64 9) (placed-from (a ⟨ 9 ⟩) halves (omega (arith, full)) ∙ all-listed halves 18 full)
+    ∙ part-back 32 18 9 0 (lit< tt) refl a (omega arith) fits
+    ∙ sym (part-listed a 0 9 (omega arith))) i
+    ++ (a ⟨ 9 ⟩
+    ∷ sym (part-listed a 10 4 (omega arith)) i
+    ++ (sym (part-listed a 14 2 (omega arith)) i
+    ++ ((part-back 8 16 2 16 (lit< tt) refl a (omega arith) fits ∙ sym (part-listed a 16 2 (omega arith))) i ++ (a ⟨ 18 ⟩ ∷ a ⟨ 19 ⟩ ∷ [])))))
+    ∙ all-listed a 20 e
   where
     halves : List ℕ
     halves = regrouped 64 32 18 (take 9 a)
 
-    halves-length : length halves ≡ 18
-    halves-length = regrouped-length 64 32 18 (take 9 a)
+    full : length halves ≡ 18
+    full = regrouped-length 64 32 18 (take 9 a)

@@ -47,7 +47,7 @@ cut-of N n w k h = sym (window-bitOf N w (k * n) n h ∙ ap (λ (x : ℕ). w / 2
     place = omega (arith, mul-comm k n)
 
 -- bits that are grouped and read again are the bits
-bits-same : (m n c : ℕ) → 0 < n → (f : ℕ → ℕ) (p : ℕ) → p < c * n
+pub bits-same : (m n c : ℕ) → 0 < n → (f : ℕ → ℕ) (p : ℕ) → p < c * n
     → bitAt n (λ i. listed (λ j. window (bitAt m f) (j * n) n) 0 c ⟨ i ⟩) p ≡ bitAt m f p
 unfolding bitAt
 bits-same m n c pos f p h =

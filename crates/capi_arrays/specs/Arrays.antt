@@ -2,34 +2,45 @@
 use mathlib.Core.List.{List, [], _∷_, _++_}
 use Prim.Native.Nat.{ℕ, _*_}
 use lib.ListN.{drop, take}
-use Rattle.standard.specs.States.{Stored}
+use Rattle.standard.specs.States.{Held, Stored}
 use Rattle.standard.specs.Bits.{bitAt, window}
-use Rattle.standard.specs.Generator.{State}
 use Rattle.standard.specs.Notation.{_⟨_⟩, listed}
+use Rattle.zuc.specs.Reading.{cellsFrom, placesOf}
 
--- a generator, 18 words of 32 bits: s0..s15, R1, R2
-unfoldable pub arrayOf : State → List ℕ
-arrayOf σ = σ .cells ++ (σ .R₁ ∷ σ .R₂ ∷ [])
+-- the sixteen places and the registers of a generator, and what is held where they are read from a start index. (Request 2026-08: cell j
+-- of the standard stands at place (start + j) mod 16.)
+unfoldable pub placed : Held → List ℕ
+placed h = placesOf (h .start) (h .meaning .cells) ++ (h .meaning .R₁ ∷ h .meaning .R₂ ∷ [])
 
-unfoldable pub stateIn : List ℕ → State
-stateIn a = record { cells = take 16 a; R₁ = a ⟨ 16 ⟩; R₂ = a ⟨ 17 ⟩ }
+unfoldable pub heldFrom : ℕ → List ℕ → Held
+heldFrom start a =
+    record { meaning = record { cells = cellsFrom start (take 16 a); R₁ = a ⟨ 16 ⟩; R₂ = a ⟨ 17 ⟩ }; start = start }
+
+-- a generator, 19 words of 32 bits: the sixteen places, R1, R2, the start index
+unfoldable pub arrayOf : Held → List ℕ
+arrayOf h = placed h ++ (h .start ∷ [])
+
+unfoldable pub heldIn : List ℕ → Held
+heldIn a = heldFrom (a ⟨ 18 ⟩) a
 
 -- the bits of a run of numbers of m bits, highest first, as so many numbers of n bits
 unfoldable pub regrouped : ℕ → ℕ → ℕ → List ℕ → List ℕ
 regrouped m n count run = listed (λ j. window (bitAt m (λ i. run ⟨ i ⟩)) (j * n) n) 0 count
 
--- a tag state, 19 words of 64 bits: the generator's array, two words to one; the key pair; the tag; the bytes that wait, eight to a
--- word; their count; the width
+-- a tag state, 20 words of 64 bits: the generator's places and registers, two words to one; its start index; the key pair; the tag; the
+-- bytes that wait, eight to a word; their count; the width
 unfoldable pub tagArrayOf : Stored → List ℕ
-tagArrayOf s = regrouped 32 64 9 (arrayOf (s .generator)) ++ (s .key ++ (s .tag ++ (regrouped 8 64 2 (s .rem) ++ (s .cnt ∷ s .width ∷ []))))
+tagArrayOf s =
+    regrouped 32 64 9 (placed (s .generator))
+    ++ (s .generator .start ∷ s .key ++ (s .tag ++ (regrouped 8 64 2 (s .rem) ++ (s .cnt ∷ s .width ∷ []))))
 
 unfoldable pub storedIn : List ℕ → Stored
 storedIn a =
     record {
-      generator = stateIn (regrouped 64 32 18 (take 9 a));
-      key = take 4 (drop 9 a);
-      tag = take 2 (drop 13 a);
-      rem = regrouped 64 8 16 (take 2 (drop 15 a));
-      cnt = a ⟨ 17 ⟩;
-      width = a ⟨ 18 ⟩;
+      generator = heldFrom (a ⟨ 9 ⟩) (regrouped 64 32 18 (take 9 a));
+      key = take 4 (drop 10 a);
+      tag = take 2 (drop 14 a);
+      rem = regrouped 64 8 16 (take 2 (drop 16 a));
+      cnt = a ⟨ 18 ⟩;
+      width = a ⟨ 19 ⟩;
     }

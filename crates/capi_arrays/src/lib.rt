@@ -1,21 +1,23 @@
 // States as arrays of numbers, for callers in C, and back. Nothing is lost either way: what is packed is unpacked the same, and what is
 // unpacked is packed the same, whatever an array holds.
 ghost use mathlib.Core.Path.{_≡_};
-ghost use lib.ListN.{drop, take};
-ghost use Prim.Native.Nat.{_*_, _<_};
-ghost use Rattle.capi_arrays.specs.Arrays.{arrayOf, regrouped, stateIn, storedIn, tagArrayOf};
+ghost use lib.ListN.{drop, length, take};
+ghost use Prim.Native.Nat.{_*_, _^_, _<_, _≤_};
+ghost use Rattle.capi_arrays.specs.Arrays.{arrayOf, heldFrom, heldIn, placed, regrouped, storedIn, tagArrayOf};
 ghost use Rattle.mac_registers.specs.Stored.{storedOf};
 ghost use Rattle.standard.specs.Bits.{bitOf, window};
-ghost use Rattle.zuc.specs.Reading.{stateOf};
+ghost use Rattle.standard.specs.Notation.{_⟨_⟩};
+ghost use Rattle.zuc.specs.Reading.{heldOf};
 use mac_registers::TagState;
 use mac_registers::sums::joined;
 use mac_registers::wide_at;
 use zuc::Zuc;
 
-// A generator: s0..s15, R1, R2.
-pub fn array_of(z: Zuc) -> [u32; 18]
-    ensures is { λ r. ⌜ r ≡ arrayOf (stateOf z) ⌝ }
-    ensures back { λ r. ⌜ stateIn r ≡ stateOf z ⌝ }
+// A generator: the sixteen places, R1, R2, the start index.
+pub fn array_of(z: Zuc) -> [u32; 19]
+    requires { ⌜ z .start < 2 ^ 32 ⌝ }
+    ensures is { λ r. ⌜ r ≡ arrayOf (heldOf z) ⌝ }
+    ensures back { λ r. ⌜ heldIn r ≡ heldOf z ⌝ }
 {
     let s = z.s;
     [
@@ -37,45 +39,46 @@ pub fn array_of(z: Zuc) -> [u32; 18]
         s[15],
         z.r1,
         z.r2,
+        z.start as u32,
     ]
 }
 
-pub fn state_in(a: [u32; 18]) -> Zuc
-    ensures is { λ r. ⌜ stateOf r ≡ stateIn a ⌝ }
-    ensures back { λ r. ⌜ arrayOf (stateOf r) ≡ a ⌝ }
+// The first sixteen words of an array.
+fn places_in(a: &[u32]) -> [u32; 16]
+    requires { ⌜ 16 ≤ length (now a) ⌝ }
+    ensures { λ r. ⌜ r ≡ take 16 (now (a .entry)) ⌝ }
 {
+    let mut places = [0u32; 16];
+    for i in 0usize..16 {
+        places[i] = a[i];
+    }
+    places
+}
+
+pub fn state_in(a: [u32; 19]) -> Zuc
+    ensures is { λ r. ⌜ heldOf r ≡ heldIn a ⌝ }
+    ensures back { λ r. ⌜ arrayOf (heldOf r) ≡ a ⌝ }
+    ensures small { λ r. ⌜ r .start < 2 ^ 32 ⌝ }
+{
+    let s = places_in(&a);
     Zuc {
-        s: [
-            a[0],
-            a[1],
-            a[2],
-            a[3],
-            a[4],
-            a[5],
-            a[6],
-            a[7],
-            a[8],
-            a[9],
-            a[10],
-            a[11],
-            a[12],
-            a[13],
-            a[14],
-            a[15],
-        ],
+        s,
         r1: a[16],
         r2: a[17],
+        start: a[18] as usize,
     }
 }
 
-// A generator's array, two words to one.
-fn words_of(a: [u32; 18]) -> [u64; 9]
-    ensures { λ r. ⌜ r ≡ regrouped 32 64 9 a ⌝ }
+// A generator's places and registers, two words to one.
+fn words_of(z: Zuc) -> [u64; 9]
+    ensures { λ r. ⌜ r ≡ regrouped 32 64 9 (placed (heldOf z)) ⌝ }
 {
+    let s = z.s;
     let mut words = [0u64; 9];
-    for i in 0usize..9 {
-        words[i] = joined(a[2 * i], a[2 * i + 1]);
+    for i in 0usize..8 {
+        words[i] = joined(s[2 * i], s[2 * i + 1]);
     }
+    words[8] = joined(z.r1, z.r2);
     words
 }
 
@@ -95,7 +98,7 @@ fn byte_of(word: u64, k: usize) -> u8
     ((word >> (56 - 8 * k)) % 256) as u8
 }
 
-fn halves_in(a: [u64; 19]) -> [u32; 18]
+fn halves_in(a: [u64; 20]) -> [u32; 18]
     ensures { λ r. ⌜ r ≡ regrouped 64 32 18 (take 9 a) ⌝ }
 {
     let mut halves = [0u32; 18];
@@ -105,18 +108,32 @@ fn halves_in(a: [u64; 19]) -> [u32; 18]
     halves
 }
 
-fn bytes_in(a: [u64; 19]) -> [u8; 16]
-    ensures { λ r. ⌜ r ≡ regrouped 64 8 16 (take 2 (drop 15 a)) ⌝ }
+fn bytes_in(a: [u64; 20]) -> [u8; 16]
+    ensures { λ r. ⌜ r ≡ regrouped 64 8 16 (take 2 (drop 16 a)) ⌝ }
 {
     let mut bytes = [0u8; 16];
     for i in 0usize..16 {
-        bytes[i] = byte_of(a[15 + i / 8], i % 8);
+        bytes[i] = byte_of(a[16 + i / 8], i % 8);
     }
     bytes
 }
 
+// A generator out of a tag state's array.
+fn generator_in(a: [u64; 20]) -> Zuc
+    ensures { λ r. ⌜ heldOf r ≡ heldFrom (a ⟨ 9 ⟩) (regrouped 64 32 18 (take 9 a)) ⌝ }
+{
+    let halves = halves_in(a);
+    let s = places_in(&halves);
+    Zuc {
+        s,
+        r1: halves[16],
+        r2: halves[17],
+        start: a[9] as usize,
+    }
+}
+
 // A tag state: the generator and the bytes that wait are joined to words of 64 bits, so that no number is too great for its place.
-pub fn tag_array_of(s: TagState) -> [u64; 19]
+pub fn tag_array_of(s: TagState) -> [u64; 20]
     ensures is { λ r. ⌜ r ≡ tagArrayOf (storedOf s) ⌝ }
     ensures back { λ r. ⌜ storedIn r ≡ storedOf s ⌝ }
 {
@@ -124,7 +141,7 @@ pub fn tag_array_of(s: TagState) -> [u64; 19]
     let key = s.key;
     let tag = s.tag;
     let rem = s.rem;
-    let w = words_of(array_of(g));
+    let w = words_of(g);
     let high = wide_at(&rem, 0);
     let low = wide_at(&rem, 8);
     [
@@ -137,6 +154,7 @@ pub fn tag_array_of(s: TagState) -> [u64; 19]
         w[6],
         w[7],
         w[8],
+        g.start as u64,
         key[0],
         key[1],
         key[2],
@@ -150,18 +168,18 @@ pub fn tag_array_of(s: TagState) -> [u64; 19]
     ]
 }
 
-pub fn tag_state_in(a: [u64; 19]) -> TagState
+pub fn tag_state_in(a: [u64; 20]) -> TagState
     ensures is { λ r. ⌜ storedOf r ≡ storedIn a ⌝ }
     ensures back { λ r. ⌜ tagArrayOf (storedOf r) ≡ a ⌝ }
 {
-    let g = state_in(halves_in(a));
+    let g = generator_in(a);
     let rem = bytes_in(a);
     TagState {
         g,
-        key: [a[9], a[10], a[11], a[12]],
-        tag: [a[13], a[14]],
+        key: [a[10], a[11], a[12], a[13]],
+        tag: [a[14], a[15]],
         rem,
-        cnt: a[17] as usize,
-        width: a[18] as usize,
+        cnt: a[18] as usize,
+        width: a[19] as usize,
     }
 }

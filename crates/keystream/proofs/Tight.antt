@@ -11,6 +11,7 @@ use lib.Dec.{eqb}
 use mathlib.Core.List.{List}
 use mathlib.Core.Path.{_≡_, _∙_, ap, refl, sym}
 use Prim.Native.Nat.{ℕ}
+use Rattle.zuc.proofs.Turning.{read-once}
 use Rattle.zuc.specs.declared.Zuc.{Zuc}
 use Rattle.standard.proofs.Promise.{AsksNothing, Tight}
 use Rattle.standard.specs.Notation.{if_then_else_}
@@ -66,14 +67,14 @@ pub start-tight : (r r′ : Start) → startTold r ≡ startTold r′ → r ≡ 
 start-tight r r′ e =
     λ i. record {
       answer = (sym (start-back (r .answer)) ∙ ap (λ o. startAnswer (o .number)) e ∙ start-back (r′ .answer)) i;
-      state = record { s = e i .state .cells; r1 = e i .state .R₁; r2 = e i .state .R₂ };
+      state = read-once (r .state) (r′ .state) (ap (λ o. o .state) e) i;
     }
 
 draw-tight : (r r′ : Drew) → drawTold r ≡ drawTold r′ → r ≡ r′
 draw-tight r r′ e =
     λ i. record {
       answer = (sym (draw-back (r .answer)) ∙ ap (λ o. drawAnswer (o .number) (o .word)) e ∙ draw-back (r′ .answer)) i;
-      state = record { s = e i .state .cells; r1 = e i .state .R₁; r2 = e i .state .R₂ };
+      state = read-once (r .state) (r′ .state) (ap (λ o. o .state) e) i;
     }
 
 -- the starts
@@ -114,7 +115,7 @@ tight-fill κs a r r′ s s′ p q =
     λ i. (
       record {
         answer = (sym (fill-back (r .answer)) ∙ ap (λ o. fillAnswer (o .number)) e ∙ fill-back (r′ .answer)) i;
-        state = record { s = e i .state .cells; r1 = e i .state .R₁; r2 = e i .state .R₂ };
+        state = read-once (r .state) (r′ .state) (ap (λ o. o .state) e) i;
       },
       e i .buffer,
     )

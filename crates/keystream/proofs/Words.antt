@@ -8,13 +8,14 @@ use native.Mathlib.Nat.{zero-add}
 use lib.Dec.{lit<}
 use lib.ListN.{length, length-append}
 use Rattle.standard.specs.Confidentiality.{IV-EEA3}
-use Rattle.standard.specs.Generator.{State, after, keystream, next, started, word, wordAt}
+use Rattle.standard.specs.Generator.{State, after, keystream, started, word, wordAt}
 use Rattle.standard.specs.Loading.{load₁₂₈, load₂₅₆, rowOf}
 use Rattle.standard.specs.Notation.{listed}
 use Rattle.standard.specs.Refusals.{Test, accepted, ivTest, keyTest, stateTest, tested, widthTest}
-use Rattle.standard.specs.States.{wellFormed}
-use Rattle.standard.proofs.Cells.{Cells, cells-wellFormed}
-use Rattle.standard.proofs.Generator.{after-after, sound-after, sound-started, stream-is, wordAt-after}
+use Rattle.standard.specs.States.{Held, fromZero, heldFormed, moved}
+use Rattle.standard.proofs.Cells.{Cells}
+use Rattle.standard.proofs.Generator.{sound-started, stream-is}
+use Rattle.standard.proofs.Held.{moved-moved, ready-heldFormed, ready-moved, wordAt-moved}
 use Rattle.standard.proofs.Listed.{length-listed, listed-append, listed-on}
 use Rattle.standard.proofs.Tested.{Numbered, accepted-is, passed}
 use Rattle.keystream.specs.Draws.{DrawOutcome, FillOutcome, drawOutcome, fillOutcome, refusedDraw, refusedFill}
@@ -22,102 +23,104 @@ use Rattle.keystream.specs.Runs.{Draws, many, none, one}
 use Rattle.keystream.specs.Starts.{StartOutcome, acceptedStart, refusedStart, start-EEA3, startTag₂₅₆, start₁₂₈, start₂₅₆}
 
 -- an accepted draw and an accepted fill are the answers of their definitions
-drew : (σ : State) (o : DrawOutcome) → o ≡ drawOutcome σ → o .number ≡ accepted → o ≡ record { number = accepted; word = word σ; state = next σ }
+drew : (h : Held) (o : DrawOutcome) → o ≡ drawOutcome h → o .number ≡ accepted → o ≡ record { number = accepted; word = word (h .meaning); state = moved 1 h }
 unfolding drawOutcome
-drew σ o told ok =
+drew h o told ok =
     told
-    ∙ accepted-is (λ (x : DrawOutcome). x .number) (refusedDraw σ) (λ n. refl) (record { number = accepted; word = word σ; state = next σ })
-    (stateTest (wellFormed (σ .cells)) ∷ []) (lit< tt, tt) (ap (λ (x : DrawOutcome). x .number) (sym told) ∙ ok)
+    ∙ accepted-is (λ (x : DrawOutcome). x .number) (refusedDraw h) (λ n. refl) (record { number = accepted; word = word (h .meaning); state = moved 1 h })
+    (stateTest (heldFormed h) ∷ []) (lit< tt, tt) (ap (λ (x : DrawOutcome). x .number) (sym told) ∙ ok)
 
-filled : (σ : State) (buffer : List ℕ) (o : FillOutcome) → o ≡ fillOutcome σ buffer → o .number ≡ accepted
-    → o ≡ record { number = accepted; state = after (length buffer) σ; buffer = listed (wordAt σ) 0 (length buffer) }
+filled : (h : Held) (buffer : List ℕ) (o : FillOutcome) → o ≡ fillOutcome h buffer → o .number ≡ accepted
+    → o ≡ record { number = accepted; state = moved (length buffer) h; buffer = listed (wordAt (h .meaning)) 0 (length buffer) }
 unfolding fillOutcome
-filled σ buffer o told ok =
+filled h buffer o told ok =
     told
-    ∙ accepted-is (λ (x : FillOutcome). x .number) (refusedFill σ buffer) (λ n. refl)
-    (record { number = accepted; state = after (length buffer) σ; buffer = listed (wordAt σ) 0 (length buffer) })
-    (stateTest (wellFormed (σ .cells)) ∷ []) (lit< tt, tt) (ap (λ (x : FillOutcome). x .number) (sym told) ∙ ok)
+    ∙ accepted-is (λ (x : FillOutcome). x .number) (refusedFill h buffer) (λ n. refl)
+    (record { number = accepted; state = moved (length buffer) h; buffer = listed (wordAt (h .meaning)) 0 (length buffer) })
+    (stateTest (heldFormed h) ∷ []) (lit< tt, tt) (ap (λ (x : FillOutcome). x .number) (sym told) ∙ ok)
 
 -- words from a state, and words after them
-module _ (σ τ : State) (n : ℕ) (at : τ ≡ after n σ) (front words : List ℕ) (first : front ≡ listed (wordAt σ) 0 n) where
+module _ (h k : Held) (n : ℕ) (at : k ≡ moved n h) (front words : List ℕ) (first : front ≡ listed (wordAt (h .meaning)) 0 n) where
   all : length (front ++ words) ≡ n + length words
-  all = length-append front words ∙ ap (λ (k : ℕ). k + length words) (ap length first ∙ length-listed (wordAt σ) 0 n)
+  all = length-append front words ∙ ap (λ (m : ℕ). m + length words) (ap length first ∙ length-listed (wordAt (h .meaning)) 0 n)
 
-  on-words : words ≡ listed (wordAt τ) 0 (length words) → front ++ words ≡ listed (wordAt σ) 0 (length (front ++ words))
+  on-words : words ≡ listed (wordAt (k .meaning)) 0 (length words) → front ++ words ≡ listed (wordAt (h .meaning)) 0 (length (front ++ words))
   on-words then =
       ap₂ _++_ first
-      (then ∙ listed-on (wordAt τ) (wordAt σ) 0 (0 + n) (length words) (λ k. ap₂ wordAt at (zero-add k) ∙ wordAt-after n k σ ∙ ap (λ (m : ℕ). wordAt σ (m + k)) (sym (zero-add n))))
-      ∙ sym (ap (listed (wordAt σ) 0) all ∙ listed-append (wordAt σ) 0 n (length words))
+      (then
+      ∙ listed-on (wordAt (k .meaning)) (wordAt (h .meaning)) 0 (0 + n) (length words)
+      (λ m. ap₂ (λ (j : Held) (i : ℕ). wordAt (j .meaning) i) at (zero-add m) ∙ wordAt-moved n m h ∙ ap (λ (i : ℕ). wordAt (h .meaning) (i + m)) (sym (zero-add n))))
+      ∙ sym (ap (listed (wordAt (h .meaning)) 0) all ∙ listed-append (wordAt (h .meaning)) 0 n (length words))
 
-  on-state : {σ′ : State} → σ′ ≡ after (length words) τ → σ′ ≡ after (length (front ++ words)) σ
-  on-state e = e ∙ ap (after (length words)) at ∙ after-after n (length words) σ ∙ ap (λ (k : ℕ). after k σ) (sym all)
+  on-state : {h′ : Held} → h′ ≡ moved (length words) k → h′ ≡ moved (length (front ++ words)) h
+  on-state e = e ∙ ap (moved (length words)) at ∙ moved-moved n (length words) h ∙ ap (λ (m : ℕ). moved m h) (sym all)
 
 -- any run of draws
-pub draws-are : {σ σ′ : State} {words : List ℕ} → Draws σ words σ′ → (words ≡ listed (wordAt σ) 0 (length words)) × (σ′ ≡ after (length words) σ)
-unfolding listed after wordAt
+pub draws-are : {h h′ : Held} {words : List ℕ} → Draws h words h′ → (words ≡ listed (wordAt (h .meaning)) 0 (length words)) × (h′ ≡ moved (length words) h)
+unfolding listed moved after wordAt
 draws-are none = (refl, refl)
-draws-are {σ} (one {words = words} o told ok rest) =
-    let e = drew σ o told ok in
-    let h = draws-are rest in
-    let at : o .state ≡ after 1 σ = ap (λ (x : DrawOutcome). x .state) e in
-    let first : o .word ∷ [] ≡ listed (wordAt σ) 0 1 = ap (λ (x : DrawOutcome). x .word ∷ []) e in
-    (on-words σ (o .state) 1 at (o .word ∷ []) words first (h .0), on-state σ (o .state) 1 at (o .word ∷ []) words first (h .1))
-draws-are {σ} (many {words = words} buffer o told ok rest) =
-    let e = filled σ buffer o told ok in
-    let h = draws-are rest in
-    let at : o .state ≡ after (length buffer) σ = ap (λ (x : FillOutcome). x .state) e in
-    let first : o .buffer ≡ listed (wordAt σ) 0 (length buffer) = ap (λ (x : FillOutcome). x .buffer) e in
-    (on-words σ (o .state) (length buffer) at (o .buffer) words first (h .0), on-state σ (o .state) (length buffer) at (o .buffer) words first (h .1))
+draws-are {h} (one {words = words} o told ok rest) =
+    let e = drew h o told ok in
+    let then = draws-are rest in
+    let at : o .state ≡ moved 1 h = ap (λ (x : DrawOutcome). x .state) e in
+    let first : o .word ∷ [] ≡ listed (wordAt (h .meaning)) 0 1 = ap (λ (x : DrawOutcome). x .word ∷ []) e in
+    (on-words h (o .state) 1 at (o .word ∷ []) words first (then .0), on-state h (o .state) 1 at (o .word ∷ []) words first (then .1))
+draws-are {h} (many {words = words} buffer o told ok rest) =
+    let e = filled h buffer o told ok in
+    let then = draws-are rest in
+    let at : o .state ≡ moved (length buffer) h = ap (λ (x : FillOutcome). x .state) e in
+    let first : o .buffer ≡ listed (wordAt (h .meaning)) 0 (length buffer) = ap (λ (x : FillOutcome). x .buffer) e in
+    (on-words h (o .state) (length buffer) at (o .buffer) words first (then .0), on-state h (o .state) (length buffer) at (o .buffer) words first (then .1))
 
 -- an accepted start is at rest over what was loaded
 started-is : (tests : List Test) → Numbered tests → (loaded : State) (start : StartOutcome) → start ≡ tested tests refusedStart (acceptedStart loaded)
-    → start .number ≡ accepted → start .state ≡ started loaded
+    → start .number ≡ accepted → start .state ≡ fromZero (started loaded)
 started-is tests low loaded start told ok =
     ap (λ (x : StartOutcome). x .state)
     (told
     ∙ accepted-is (λ (x : StartOutcome). x .number) refusedStart (λ n. refl) (acceptedStart loaded) tests low (ap (λ (x : StartOutcome). x .number) (sym told) ∙ ok))
 
 module _ (start : StartOutcome) (ok : start .number ≡ accepted) where
-  pub at-rest-zuc128 : (key iv : List ℕ) → start ≡ start₁₂₈ key iv → start .state ≡ started (load₁₂₈ key iv)
+  pub at-rest-zuc128 : (key iv : List ℕ) → start ≡ start₁₂₈ key iv → start .state ≡ fromZero (started (load₁₂₈ key iv))
   unfolding start₁₂₈
   at-rest-zuc128 key iv told = started-is (keyTest 16 key ∷ ivTest 16 iv ∷ []) (lit< tt, (lit< tt, tt)) (load₁₂₈ key iv) start told ok
 
   pub at-rest-eea3 : (count bearer direction : ℕ) (key : List ℕ) → start ≡ start-EEA3 count bearer direction key
-      → start .state ≡ started (load₁₂₈ key (IV-EEA3 count bearer direction))
+      → start .state ≡ fromZero (started (load₁₂₈ key (IV-EEA3 count bearer direction)))
   unfolding start-EEA3
   at-rest-eea3 count bearer direction key told =
       started-is (keyTest 16 key ∷ []) (lit< tt, tt) (load₁₂₈ key (IV-EEA3 count bearer direction)) start told ok
 
-  pub at-rest-zuc256 : (d key iv : List ℕ) → start ≡ start₂₅₆ d key iv → start .state ≡ started (load₂₅₆ d key iv)
+  pub at-rest-zuc256 : (d key iv : List ℕ) → start ≡ start₂₅₆ d key iv → start .state ≡ fromZero (started (load₂₅₆ d key iv))
   unfolding start₂₅₆
   at-rest-zuc256 d key iv told = started-is (keyTest 32 key ∷ ivTest 23 iv ∷ []) (lit< tt, (lit< tt, tt)) (load₂₅₆ d key iv) start told ok
 
-  pub at-rest-tag : (width : ℕ) (key iv : List ℕ) → start ≡ startTag₂₅₆ width key iv → start .state ≡ started (load₂₅₆ (rowOf width) key iv)
+  pub at-rest-tag : (width : ℕ) (key iv : List ℕ) → start ≡ startTag₂₅₆ width key iv → start .state ≡ fromZero (started (load₂₅₆ (rowOf width) key iv))
   unfolding startTag₂₅₆
   at-rest-tag width key iv told =
       started-is (widthTest width ∷ keyTest 32 key ∷ ivTest 23 iv ∷ []) (lit< tt, (lit< tt, (lit< tt, tt))) (load₂₅₆ (rowOf width) key iv) start told ok
 
 -- THE WORDS: after a start that is at rest over what was loaded, any run of draws gives the document's keystream from its first word on
-pub words-drawn : (loaded : State) {σ σ′ : State} {words : List ℕ} → σ ≡ started loaded → Draws σ words σ′
-    → (words ≡ listed (keystream loaded) 0 (length words)) × (σ′ ≡ after (length words) (started loaded))
+pub words-drawn : (loaded : State) {h h′ : Held} {words : List ℕ} → h ≡ fromZero (started loaded) → Draws h words h′
+    → (words ≡ listed (keystream loaded) 0 (length words)) × (h′ ≡ moved (length words) (fromZero (started loaded)))
 words-drawn loaded {words = words} e run =
-    let h = draws-are run in (
-      h .0 ∙ ap (λ (f : ℕ → ℕ). listed f 0 (length words)) (ap wordAt e ∙ sym (stream-is loaded)),
-      h .1 ∙ ap (after (length words)) e,
+    let are = draws-are run in (
+      are .0 ∙ ap (λ (f : ℕ → ℕ). listed f 0 (length words)) (ap (λ (k : Held). wordAt (k .meaning)) e ∙ sym (stream-is loaded)),
+      are .1 ∙ ap (moved (length words)) e,
     )
 
 -- and no draw of it is refused
 module _ (loaded : State) (c : Cells (loaded .cells)) (n : ℕ) where
-  formed : wellFormed (after n (started loaded) .cells) ≡ true
-  formed = cells-wellFormed (sound-after n (started loaded) (sound-started loaded c))
+  abbrev at : Held
+  at = moved n (fromZero (started loaded))
 
-  pub never-refused-draw : drawOutcome (after n (started loaded)) .number ≡ accepted
+  formed : heldFormed at ≡ true
+  formed = ready-heldFormed (ready-moved n (fromZero (started loaded)) (record { cells = sound-started loaded c; start = lit< tt }))
+
+  pub never-refused-draw : drawOutcome at .number ≡ accepted
   unfolding drawOutcome
-  never-refused-draw =
-      ap (λ (x : DrawOutcome). x .number) (passed (stateTest (wellFormed (after n (started loaded) .cells)) ∷ []) (refusedDraw (after n (started loaded))) _ (formed, tt))
+  never-refused-draw = ap (λ (x : DrawOutcome). x .number) (passed (stateTest (heldFormed at) ∷ []) (refusedDraw at) _ (formed, tt))
 
-  pub never-refused-fill : (buffer : List ℕ) → fillOutcome (after n (started loaded)) buffer .number ≡ accepted
+  pub never-refused-fill : (buffer : List ℕ) → fillOutcome at buffer .number ≡ accepted
   unfolding fillOutcome
-  never-refused-fill buffer =
-      ap (λ (x : FillOutcome). x .number)
-      (passed (stateTest (wellFormed (after n (started loaded) .cells)) ∷ []) (refusedFill (after n (started loaded)) buffer) _ (formed, tt))
+  never-refused-fill buffer = ap (λ (x : FillOutcome). x .number) (passed (stateTest (heldFormed at) ∷ []) (refusedFill at buffer) _ (formed, tt))

@@ -8,11 +8,11 @@ use Rattle.keystream.specs.declared.Drew.{Drew}
 use Rattle.keystream.specs.declared.FillAnswer.{FillAnswer}
 use Rattle.keystream.specs.declared.FillAnswer.the-variants as fill-answer
 use Rattle.keystream.specs.declared.Filling.{Filling}
-use Rattle.standard.specs.Generator.{State, after, next, word, wordAt}
+use Rattle.standard.specs.Generator.{word, wordAt}
 use Rattle.standard.specs.Notation.{listed}
 use Rattle.standard.specs.Refusals.{accepted, badState, stateTest, tested}
-use Rattle.standard.specs.States.{wellFormed}
-use Rattle.zuc.specs.Reading.{stateOf}
+use Rattle.standard.specs.States.{Held, heldFormed, moved}
+use Rattle.zuc.specs.Reading.{heldOf}
 
 -- a draw: the number of each case, its word, and all that a call gives
 abbrev pub drawNumber : DrawAnswer → ℕ
@@ -26,17 +26,17 @@ drawWord draw-answer.BadState = 0
 pub record DrawOutcome : Type 0 where
   pub number : ℕ
   pub word : ℕ
-  pub state : State
+  pub state : Held
 
 abbrev pub drawTold : Drew → DrawOutcome
-drawTold r = record { number = drawNumber (r .answer); word = drawWord (r .answer); state = stateOf (r .state) }
+drawTold r = record { number = drawNumber (r .answer); word = drawWord (r .answer); state = heldOf (r .state) }
 
 -- a refusal hands back the caller's state and a zero word
-abbrev pub refusedDraw : State → ℕ → DrawOutcome
-refusedDraw σ number = record { number = number; word = 0; state = σ }
+abbrev pub refusedDraw : Held → ℕ → DrawOutcome
+refusedDraw h number = record { number = number; word = 0; state = h }
 
-unfoldable pub drawOutcome : State → DrawOutcome
-drawOutcome σ = tested (stateTest (wellFormed (σ .cells)) ∷ []) (refusedDraw σ) (record { number = accepted; word = word σ; state = next σ })
+unfoldable pub drawOutcome : Held → DrawOutcome
+drawOutcome h = tested (stateTest (heldFormed h) ∷ []) (refusedDraw h) (record { number = accepted; word = word (h .meaning); state = moved 1 h })
 
 -- a buffer of words filled, one draw each
 abbrev pub fillNumber : FillAnswer → ℕ
@@ -45,17 +45,17 @@ fillNumber fill-answer.BadState = badState
 
 pub record FillOutcome : Type 0 where
   pub number : ℕ
-  pub state : State
+  pub state : Held
   pub buffer : List ℕ
 
 abbrev pub fillTold : Filling → List ℕ → FillOutcome
-fillTold r buffer = record { number = fillNumber (r .answer); state = stateOf (r .state); buffer = buffer }
+fillTold r buffer = record { number = fillNumber (r .answer); state = heldOf (r .state); buffer = buffer }
 
 -- a refusal leaves state and buffer untouched
-abbrev pub refusedFill : State → List ℕ → ℕ → FillOutcome
-refusedFill σ buffer number = record { number = number; state = σ; buffer = buffer }
+abbrev pub refusedFill : Held → List ℕ → ℕ → FillOutcome
+refusedFill h buffer number = record { number = number; state = h; buffer = buffer }
 
-unfoldable pub fillOutcome : State → List ℕ → FillOutcome
-fillOutcome σ buffer =
-    tested (stateTest (wellFormed (σ .cells)) ∷ []) (refusedFill σ buffer)
-    (record { number = accepted; state = after (length buffer) σ; buffer = listed (wordAt σ) 0 (length buffer) })
+unfoldable pub fillOutcome : Held → List ℕ → FillOutcome
+fillOutcome h buffer =
+    tested (stateTest (heldFormed h) ∷ []) (refusedFill h buffer)
+    (record { number = accepted; state = moved (length buffer) h; buffer = listed (wordAt (h .meaning)) 0 (length buffer) })

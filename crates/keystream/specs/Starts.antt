@@ -8,8 +8,8 @@ use Rattle.standard.specs.Confidentiality.{IV-EEA3}
 use Rattle.standard.specs.Generator.{State, started}
 use Rattle.standard.specs.Loading.{load₁₂₈, load₂₅₆, rowOf}
 use Rattle.standard.specs.Refusals.{accepted, badIV, badKey, badWidth, ivTest, keyTest, tested, widthTest}
-use Rattle.standard.specs.States.{zeros}
-use Rattle.zuc.specs.Reading.{stateOf}
+use Rattle.standard.specs.States.{Held, fromZero, zeros}
+use Rattle.zuc.specs.Reading.{heldOf}
 
 -- the number of each case of the answer, and all that a call gives: that number and the state
 abbrev pub startNumber : StartAnswer → ℕ
@@ -20,14 +20,14 @@ startNumber BadIv = badIV
 
 pub record StartOutcome : Type 0 where
   pub number : ℕ
-  pub state : State
+  pub state : Held
 
 abbrev pub startTold : Start → StartOutcome
-startTold r = record { number = startNumber (r .answer); state = stateOf (r .state) }
+startTold r = record { number = startNumber (r .answer); state = heldOf (r .state) }
 
 -- an accepted start hands back the started state, a refused one zeros
 abbrev pub acceptedStart : State → StartOutcome
-acceptedStart loaded = record { number = accepted; state = started loaded }
+acceptedStart loaded = record { number = accepted; state = fromZero (started loaded) }
 
 abbrev pub refusedStart : ℕ → StartOutcome
 refusedStart number = record { number = number; state = zeros }

@@ -3,7 +3,8 @@ ghost use mathlib.Core.Path.{_≡_};
 ghost use Rattle.keystream.specs.Draws.{drawTold, drawOutcome, fillTold, fillOutcome};
 ghost use Rattle.keystream.specs.Starts.{acceptedStart, refusedStart, startTold, startNumber};
 ghost use Rattle.standard.proofs.Cells.{Cells};
-ghost use Rattle.zuc.specs.Reading.{stateOf};
+ghost use Rattle.zuc.specs.Reading.{heldOf, loadedOf};
+use zuc::Loaded;
 use zuc::Zuc;
 use zuc::boxes::s0;
 use zuc::boxes::s1;
@@ -60,14 +61,15 @@ fn refused(answer: StartAnswer) -> Start
             s: [0u32; 16],
             r1: 0,
             r2: 0,
+            start: 0,
         },
     }
 }
 
 // An accepted start: loaded cells, brought through start-up.
-fn started_from(loaded: Zuc) -> Start
-    requires { ⌜ Cells (stateOf loaded .cells) ⌝ }
-    ensures { λ r. ⌜ startTold r ≡ acceptedStart (stateOf loaded) ⌝ }
+fn started_from(loaded: Loaded) -> Start
+    requires { ⌜ Cells (loaded .s) ⌝ }
+    ensures { λ r. ⌜ startTold r ≡ acceptedStart (loadedOf loaded) ⌝ }
 {
     let t0 = s0();
     let t1 = s1();
@@ -80,7 +82,7 @@ fn started_from(loaded: Zuc) -> Start
 
 // The next word of the keystream.
 pub fn generate(state: Zuc) -> Drew
-    ensures { λ r. ⌜ drawTold r ≡ drawOutcome (stateOf state) ⌝ }
+    ensures { λ r. ⌜ drawTold r ≡ drawOutcome (heldOf state) ⌝ }
 {
     if !zuc::is_well_formed(state) {
         return Drew {
@@ -100,7 +102,7 @@ pub fn generate(state: Zuc) -> Drew
 
 // The same of a generator that the caller lends: taken out, stepped by value, and written back.
 pub fn generate_in_place(g: &mut Zuc) -> DrawAnswer
-    ensures { λ r. ⌜ drawTold (record { answer = r; state = now (g .exit) }) ≡ drawOutcome (stateOf (now (g .entry))) ⌝ }
+    ensures { λ r. ⌜ drawTold (record { answer = r; state = now (g .exit) }) ≡ drawOutcome (heldOf (now (g .entry))) ⌝ }
 {
     let drew = generate(*g);
     *g = drew.state;
@@ -109,7 +111,7 @@ pub fn generate_in_place(g: &mut Zuc) -> DrawAnswer
 
 // The next words of the keystream, as many as the buffer holds.
 pub fn fill(state: Zuc, buffer: &mut [u32]) -> Filling
-    ensures { λ r. ⌜ fillTold r (now (buffer .exit)) ≡ fillOutcome (stateOf state) (now (buffer .entry)) ⌝ }
+    ensures { λ r. ⌜ fillTold r (now (buffer .exit)) ≡ fillOutcome (heldOf state) (now (buffer .entry)) ⌝ }
 {
     if !zuc::is_well_formed(state) {
         return Filling {

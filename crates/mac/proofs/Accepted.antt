@@ -11,6 +11,7 @@ use Rattle.standard.specs.Notation.{if_then_else_}
 use Rattle.standard.specs.Refusals.{Test, badIV, badKey, badWidth, ivTest, keyTest, tested, widthTest}
 use Rattle.standard.proofs.Cells.{Cells}
 use Rattle.standard.proofs.Generator.{sound-started}
+use Rattle.standard.proofs.Held.{Ready}
 use Rattle.standard.proofs.Tested.{Numbered, accepted-is, accepted-passed}
 use Rattle.keystream.specs.Starts.{StartOutcome, acceptedStart, refusedStart, startTag₂₅₆, start₁₂₈}
 use Rattle.zuc_loading.specs.InnerRows.{Row}
@@ -18,16 +19,16 @@ use Rattle.zuc_loading.proofs.Loaded.{Bytes, cells-128, cells-256}
 use Rattle.zuc_loading.proofs.Rows.{d-tag₁₂₈-row, d-tag₃₂-row, d-tag₆₄-row}
 use Rattle.mac_registers.proofs.Packed.{width-is}
 use Rattle.mac_registers.specs.Inner.{Width}
-use Rattle.mac.specs.Inner.{Ready}
+use Rattle.mac.specs.Inner.{Live}
 
-ready : (tests : List Test) → Numbered tests → (loaded : State) → Cells (loaded .cells) → Ready (tested tests refusedStart (acceptedStart loaded))
-ready tests low loaded c e =
-    subst (λ (o : StartOutcome). Cells (o .state .cells))
-    (sym (accepted-is (λ (o : StartOutcome). o .number) refusedStart (λ n. refl) (acceptedStart loaded) tests low e)) (sound-started loaded c)
+live : (tests : List Test) → Numbered tests → (loaded : State) → Cells (loaded .cells) → Live (tested tests refusedStart (acceptedStart loaded))
+live tests low loaded c e =
+    subst (λ (o : StartOutcome). Ready (o .state))
+    (sym (accepted-is (λ (o : StartOutcome). o .number) refusedStart (λ n. refl) (acceptedStart loaded) tests low e)) (record { cells = sound-started loaded c; start = lit< tt })
 
-pub ready-128 : (k iv : List ℕ) → Bytes k → Bytes iv → Ready (start₁₂₈ k iv)
+pub live-128 : (k iv : List ℕ) → Bytes k → Bytes iv → Live (start₁₂₈ k iv)
 unfolding start₁₂₈
-ready-128 k iv hk hv = ready (keyTest 16 k ∷ ivTest 16 iv ∷ []) (lit< tt, (lit< tt, tt)) (load₁₂₈ k iv) (cells-128 k iv hk hv)
+live-128 k iv hk hv = live (keyTest 16 k ∷ ivTest 16 iv ∷ []) (lit< tt, (lit< tt, tt)) (load₁₂₈ k iv) (cells-128 k iv hk hv)
 
 pub row-of : (width : ℕ) → Row 7 (rowOf width)
 row-of width = by (eqb width 4) (eqb width 8)
@@ -41,9 +42,9 @@ module _ (w : ℕ) (k iv : List ℕ) where
   abbrev tests-256 : List Test
   tests-256 = widthTest w ∷ keyTest 32 k ∷ ivTest 23 iv ∷ []
 
-  pub ready-256 : Bytes k → Bytes iv → Ready (startTag₂₅₆ w k iv)
+  pub live-256 : Bytes k → Bytes iv → Live (startTag₂₅₆ w k iv)
   unfolding startTag₂₅₆
-  ready-256 hk hv = ready tests-256 (lit< tt, (lit< tt, (lit< tt, tt))) (load₂₅₆ (rowOf w) k iv) (cells-256 (rowOf w) k iv (row-of w) hk hv)
+  live-256 hk hv = live tests-256 (lit< tt, (lit< tt, (lit< tt, tt))) (load₂₅₆ (rowOf w) k iv) (cells-256 (rowOf w) k iv (row-of w) hk hv)
 
   -- the width of an accepted ZUC-256 start
   pub accepted-width : startTag₂₅₆ w k iv .number ≡ 0 → Width w

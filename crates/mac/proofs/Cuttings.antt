@@ -15,7 +15,7 @@ use Rattle.standard.specs.Generator.{State, started}
 use Rattle.standard.specs.Integrity.{IV-EIA3}
 use Rattle.standard.specs.Loading.{load₁₂₈, load₂₅₆, rowOf}
 use Rattle.standard.specs.Refusals.{bitsTest, ivTest, keyTest, stateTest, tested, widthTest}
-use Rattle.standard.specs.States.{Stored, formed, formed-128}
+use Rattle.standard.specs.States.{Stored, formed, formed-128, fromZero}
 use Rattle.standard.proofs.Cells.{Cells}
 use Rattle.standard.proofs.Generator.{sound-started}
 use Rattle.standard.proofs.Tested.{passed}
@@ -71,7 +71,7 @@ cutting-128 : (loaded : State) → Cells (loaded .cells) → (start : Outcome) �
 unfolding finishOutcome-128 formed-128 packed
 cutting-128 loaded c =
     every-cutting formed-128 finishOutcome-128 (λ tag. tag) (inl refl) (λ st g. and-both (well-formed g) refl)
-    (λ s tail l e h. closing-ok 0 (formed-128 s) s tail l _ e h) (begun-EIA3 (started loaded)) (good-EIA3 (started loaded) (sound-started loaded c))
+    (λ s tail l e h. closing-ok 0 (formed-128 s) s tail l _ e h) (begun-EIA3 (fromZero (started loaded))) (good-EIA3 (fromZero (started loaded)) (record { cells = sound-started loaded c; start = lit< tt }))
 
 pub every-cutting-zuc128 : (key iv : List ℕ) → length key ≡ 16 → length iv ≡ 16 → Bytes key → Bytes iv
     → (parts : List (List ℕ)) (tail : List ℕ) (l : ℕ) → l ≤ length tail * 8
@@ -128,6 +128,6 @@ unfolding startOutcome-256 finishOutcome-256
 every-cutting-zuc256 {w} v key iv a b hk hv =
     let loaded : State = load₂₅₆ (rowOf w) key iv in
     every-cutting formed finishOutcome-256 (tagOf w) v (λ st g. well-formed g) (λ s tail l e h. closing-ok _ (formed s) s tail l _ e h)
-    (begun-ZUC256 (w * 8) (started loaded)) (good-ZUC256 v (started loaded) (sound-started loaded (cells-256 (rowOf w) key iv (row-of w) hk hv))) _
+    (begun-ZUC256 (w * 8) (fromZero (started loaded))) (good-ZUC256 v (fromZero (started loaded)) (record { cells = sound-started loaded (cells-256 (rowOf w) key iv (row-of w) hk hv); start = lit< tt })) _
     (passed (widthTest w ∷ keyTest 32 key ∷ ivTest 23 iv ∷ []) refusedTag (begunTag-256 w loaded)
     (is-width v, (eq-eqb (length key) 32 a, (eq-eqb (length iv) 23 b, tt))))

@@ -13,7 +13,7 @@ use Rattle.standard.specs.Integrity.{IV-EIA3, tag-EIA3, tag-ZUC256}
 use Rattle.standard.specs.Loading.{load₁₂₈, load₂₅₆, rowOf}
 use Rattle.standard.specs.Notation.{_⟨_⟩}
 use Rattle.standard.specs.Refusals.{badBits, badKey, badState, badWidth, bitsTest, ivTest, keyTest, tested, widthTest}
-use Rattle.standard.specs.States.{Stored, formed, formed-128, zeroStored}
+use Rattle.standard.specs.States.{Stored, formed, formed-128, fromZero, zeroStored}
 use Rattle.standard.proofs.Generator.{stream-is}
 use Rattle.standard.proofs.Table.{and-right}
 use Rattle.standard.proofs.Tested.{tested-map, tested-when}
@@ -79,16 +79,16 @@ module _ {Tag : Type 0} (none : Tag) (ok : Bool) (s : Stored) (tail : List ℕ) 
   closed e f t z et ez = rw (e, f) (ap₂ (λ (x : Tag) (y : Stored). record { number = 0; tag = x; state = y }) et ez)
 
 -- a one-shot's tag
-pub once-EIA3 : (loaded : State) (m : List ℕ) (l : ℕ) → l ≤ length m * 8 → closed-EIA3 (begun-EIA3 (started loaded)) m l ≡ tag-EIA3 (keystream loaded) m l
+pub once-EIA3 : (loaded : State) (m : List ℕ) (l : ℕ) → l ≤ length m * 8 → closed-EIA3 (begun-EIA3 (fromZero (started loaded))) m l ≡ tag-EIA3 (keystream loaded) m l
 unfolding updated
 once-EIA3 loaded m l h =
-    rule-EIA3 (started loaded) [] m l h ∙ ap₂ (λ (w : ℕ → ℕ) (n : ℕ). tag-EIA3 w m n) (sym (stream-is loaded)) (zero-add l)
+    rule-EIA3 (fromZero (started loaded)) [] m l h ∙ ap₂ (λ (w : ℕ → ℕ) (n : ℕ). tag-EIA3 w m n) (sym (stream-is loaded)) (zero-add l)
 
 pub once-ZUC256 : {w : ℕ} → Width w → (loaded : State) (m : List ℕ) (l : ℕ) → l ≤ length m * 8
-    → closed-ZUC256 (w * 8) (begun-ZUC256 (w * 8) (started loaded)) m l ≡ tag-ZUC256 (w * 8) (keystream loaded) m l
+    → closed-ZUC256 (w * 8) (begun-ZUC256 (w * 8) (fromZero (started loaded))) m l ≡ tag-ZUC256 (w * 8) (keystream loaded) m l
 unfolding updated
 once-ZUC256 {w} v loaded m l h =
-    rule-ZUC256 (w * 8) (width-whole v .0) (width-whole v .1) (started loaded) [] m l h
+    rule-ZUC256 (w * 8) (width-whole v .0) (width-whole v .1) (fromZero (started loaded)) [] m l h
     ∙ ap₂ (λ (x : ℕ → ℕ) (n : ℕ). tag-ZUC256 (w * 8) x m n) (sym (stream-is loaded)) (zero-add l)
 
 -- what is done with a start of the keystream, and with its refusals, is the definition's

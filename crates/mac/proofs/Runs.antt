@@ -11,7 +11,7 @@ use Rattle.standard.specs.Generator.{started}
 use Rattle.standard.specs.Loading.{load₁₂₈, load₂₅₆, rowOf}
 use Rattle.standard.specs.Integrity.{IV-EIA3}
 use Rattle.standard.specs.Refusals.{Test, accepted, bitsTest, ivTest, keyTest, stateTest, tested, widthTest}
-use Rattle.standard.specs.States.{Stored, zeroStored}
+use Rattle.standard.specs.States.{Stored, fromZero, zeroStored}
 use Rattle.standard.proofs.Tested.{AllPass, Numbered, accepted-passed, passed}
 use Rattle.mac_registers.specs.Stored.{packed, taggingOf}
 use Rattle.mac_registers.specs.Inner.{Width}
@@ -89,17 +89,17 @@ module _ (tests : List Test) (low : Numbered tests) (begun start : Outcome) (tol
   state-begun = ap (λ (o : Outcome). o .state) (told ∙ passed tests refusedTag begun all-passed)
 
 pub start-128 : (key iv : List ℕ) (start : Outcome) → start ≡ startOutcome-128 key iv → start .number ≡ 0
-    → start .state ≡ packed 4 (begun-EIA3 (started (load₁₂₈ key iv)))
+    → start .state ≡ packed 4 (begun-EIA3 (fromZero (started (load₁₂₈ key iv))))
 unfolding startOutcome-128
 start-128 key iv start = state-begun (keyTest 16 key ∷ ivTest 16 iv ∷ []) (lit< tt, (lit< tt, tt)) (begunTag-128 (load₁₂₈ key iv)) start
 
 pub start-EIA3 : (count bearer direction : ℕ) (key : List ℕ) (start : Outcome) → start ≡ startOutcome-EIA3 count bearer direction key → start .number ≡ 0
-    → start .state ≡ packed 4 (begun-EIA3 (started (load₁₂₈ key (IV-EIA3 count bearer direction))))
+    → start .state ≡ packed 4 (begun-EIA3 (fromZero (started (load₁₂₈ key (IV-EIA3 count bearer direction)))))
 unfolding startOutcome-EIA3
 start-EIA3 count bearer direction key start = state-begun (keyTest 16 key ∷ []) (lit< tt, tt) (begunTag-128 (load₁₂₈ key (IV-EIA3 count bearer direction))) start
 
 pub start-256 : (w : ℕ) (key iv : List ℕ) (start : Outcome) → start ≡ startOutcome-256 w key iv → start .number ≡ 0
-    → Width w × (start .state ≡ packed w (begun-ZUC256 (w * 8) (started (load₂₅₆ (rowOf w) key iv))))
+    → Width w × (start .state ≡ packed w (begun-ZUC256 (w * 8) (fromZero (started (load₂₅₆ (rowOf w) key iv)))))
 unfolding startOutcome-256
 start-256 w key iv start e z =
     let tests : List Test = widthTest w ∷ keyTest 32 key ∷ ivTest 23 iv ∷ [] in

@@ -8,11 +8,13 @@ use Rattle.standard.proofs.Promise.{AsksNothing, Tight}
 use Rattle.standard.specs.Notation.{_⟨_⟩, if_then_else_}
 use Rattle.standard.specs.Refusals.{accepted, badIV, badKey, badState, badWidth}
 use Rattle.zuc.specs.declared.Zuc.{Zuc}
-use Rattle.zuc.specs.Reading.{stateOf}
+use Rattle.zuc.proofs.Turning.{read-once}
+use Rattle.zuc.specs.Reading.{heldOf}
 use Rattle.keystream.specs.declared.StartAnswer.{StartAnswer}
 use Rattle.keystream.specs.Starts.{startNumber}
 use Rattle.keystream.proofs.Tight.{start-tight}
 use Rattle.mac_registers.specs.declared.TagState.{TagState}
+use Rattle.standard.specs.States.{Stored}
 use Rattle.mac_registers.specs.Stored.{storedOf}
 use Rattle.mac.proofs.zuc128.new.Reads as zuc128-new
 use Rattle.mac.proofs.eia3.new.Reads as eia3-new
@@ -44,9 +46,9 @@ use Rattle.mac.specs.Calls.{Closing, Once, Outcome, finishTold-128, fini
 
 -- a struct is known by its reading
 state-back : {s s′ : TagState} → storedOf s ≡ storedOf s′ → s ≡ s′
-state-back e =
+state-back {s} {s′} e =
     λ i. record {
-      g = record { s = e i .generator .cells; r1 = e i .generator .R₁; r2 = e i .generator .R₂ };
+      g = read-once (s .g) (s′ .g) (ap (λ (x : Stored). x .generator) e) i;
       key = e i .key;
       tag = e i .tag;
       rem = e i .rem;
@@ -57,7 +59,7 @@ state-back e =
 -- an answer is known by what is told of it
 start-answer : (z : Zuc) (a b : StartAnswer) → startNumber a ≡ startNumber b → a ≡ b
 start-answer z a b e =
-    ap (λ x. x .answer) (start-tight (record { answer = a; state = z }) (record { answer = b; state = z }) (λ i. record { number = e i; state = stateOf z }))
+    ap (λ x. x .answer) (start-tight (record { answer = a; state = z }) (record { answer = b; state = z }) (λ i. record { number = e i; state = heldOf z }))
 
 updateAnswer : ℕ → UpdateAnswer
 updateAnswer n = if eqb n accepted then update-answer.Done else update-answer.BadState

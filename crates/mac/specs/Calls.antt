@@ -7,7 +7,7 @@ use Rattle.standard.specs.Generator.{State, keystream, started}
 use Rattle.standard.specs.Integrity.{IV-EIA3, tag-EIA3, tag-ZUC256}
 use Rattle.standard.specs.Loading.{load₁₂₈, load₂₅₆, rowOf}
 use Rattle.standard.specs.Refusals.{accepted, badBits, badIV, badKey, badState, badWidth, bitsTest, ivTest, keyTest, stateTest, tested, widthTest}
-use Rattle.standard.specs.States.{Stored, formed, formed-128, zeroStored}
+use Rattle.standard.specs.States.{Stored, formed, formed-128, fromZero, zeroStored}
 use Rattle.keystream.specs.Starts.{startNumber}
 use Rattle.mac_registers.specs.Stored.{packed, storedOf, tagWords, taggingOf}
 use Rattle.mac_registers.specs.Tagging.{begun-EIA3, begun-ZUC256, closed-EIA3, closed-ZUC256, updated}
@@ -42,10 +42,10 @@ startTold-256 r = record { number = startNumber (r .answer); state = storedOf (r
 
 -- an accepted start hands back a tag state begun over what was loaded, a refused one zeros
 abbrev pub begunTag-128 : State → Outcome
-begunTag-128 loaded = record { number = accepted; state = packed 4 (begun-EIA3 (started loaded)) }
+begunTag-128 loaded = record { number = accepted; state = packed 4 (begun-EIA3 (fromZero (started loaded))) }
 
 abbrev pub begunTag-256 : ℕ → State → Outcome
-begunTag-256 width loaded = record { number = accepted; state = packed width (begun-ZUC256 (width * 8) (started loaded)) }
+begunTag-256 width loaded = record { number = accepted; state = packed width (begun-ZUC256 (width * 8) (fromZero (started loaded))) }
 
 abbrev pub refusedTag : ℕ → Outcome
 refusedTag number = record { number = number; state = zeroStored }

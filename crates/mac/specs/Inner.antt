@@ -4,15 +4,15 @@ use mathlib.Core.Path.{_≡_}
 use Prim.Native.Nat.{ℕ, _*_}
 use lib.Dec.{eqb}
 use Rattle.standard.specs.Refusals.{Test, accepted, bitsTest, tested}
-use Rattle.standard.proofs.Cells.{Cells}
+use Rattle.standard.proofs.Held.{Ready}
 use Rattle.keystream.specs.Starts.{StartOutcome}
 use Rattle.mac_registers.specs.Stored.{packed, tagWords}
 use Rattle.mac_registers.specs.Tagging.{begun-EIA3, begun-ZUC256, closed-EIA3, closed-ZUC256}
 use Rattle.mac.specs.Calls.{Once, Outcome, noWords, refusedOnce, refusedTag}
 
--- where it was accepted, its cells are well formed
-abbrev pub Ready : StartOutcome → Type 0
-Ready o = o .number ≡ accepted → Cells (o .state .cells)
+-- where it was accepted, its state is well formed
+abbrev pub Live : StartOutcome → Type 0
+Live o = o .number ≡ accepted → Ready (o .state)
 
 -- its refusal is passed up
 abbrev pub passedUp : StartOutcome → Test

@@ -3,10 +3,10 @@ ghost use mathlib.Core.Bool.{true};
 ghost use mathlib.Core.Path.{_≡_};
 ghost use Rattle.keystream.specs.Starts.{startTold};
 ghost use Rattle.mac.specs.Calls.{onceTold-128, startTold-128, updateOutcome, updateTold};
-ghost use Rattle.mac.specs.Inner.{Ready, begun-128, once-from-128};
+ghost use Rattle.mac.specs.Inner.{Live, begun-128, once-from-128};
 ghost use Rattle.standard.specs.Refusals.{badWidth};
 ghost use Rattle.standard.specs.States.{formed-128, zeroStored};
-ghost use Rattle.mac_registers.specs.Inner.{Held};
+ghost use Rattle.mac_registers.specs.Inner.{Holds};
 ghost use Rattle.mac_registers.specs.Stored.{storedOf};
 use keystream::Start;
 use keystream::StartAnswer;
@@ -106,7 +106,7 @@ pub enum Once256 {
 
 // Whether a state is well formed, and of 4 bytes.
 fn is_formed_128(state: TagState) -> bool
-    ensures { λ r. ⌜ (r ≡ formed-128 (storedOf state)) × (r ≡ true → Held (storedOf state)) ⌝ }
+    ensures { λ r. ⌜ (r ≡ formed-128 (storedOf state)) × (r ≡ true → Holds (storedOf state)) ⌝ }
 {
     if !is_formed(state) {
         return false;
@@ -120,7 +120,7 @@ fn is_formed_128(state: TagState) -> bool
 
 // What both kinds of update do once their state has been looked at.
 fn update_state(ok: bool, state: TagState, message: &[u8]) -> Update
-    requires { ⌜ (ok ≡ true → Held (storedOf state)) ⌝ }
+    requires { ⌜ (ok ≡ true → Holds (storedOf state)) ⌝ }
     ensures { λ r. ⌜ updateTold r ≡ updateOutcome ok (storedOf state) (now (message .entry)) ⌝ }
 {
     if !ok {
@@ -150,7 +150,7 @@ fn refused_128(answer: StartAnswer) -> Start128
 
 // A tag state from a start of the keystream, of ZUC-128 or of EIA3.
 fn begin_from(start: Start) -> Start128
-    requires { ⌜ Ready (startTold start) ⌝ }
+    requires { ⌜ Live (startTold start) ⌝ }
     ensures { λ r. ⌜ startTold-128 r ≡ begun-128 (startTold start) ⌝ }
 {
     let answer = start.answer;
@@ -171,7 +171,7 @@ fn begin_from(start: Start) -> Start128
 
 // A tag at once from a start of the keystream, of ZUC-128 or of EIA3: neither is ever refused for a width.
 fn tag_from(start: Start, message: &[u8], l: usize) -> Once128
-    requires { ⌜ Ready (startTold start) ⌝ ∗ ⌜ (startTold start .number ≡ badWidth → ⊥) ⌝ }
+    requires { ⌜ Live (startTold start) ⌝ ∗ ⌜ (startTold start .number ≡ badWidth → ⊥) ⌝ }
     ensures { λ r. ⌜ onceTold-128 r ≡ once-from-128 (startTold start) (now (message .entry)) l ⌝ }
 {
     let answer = start.answer;

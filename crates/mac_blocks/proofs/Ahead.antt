@@ -8,16 +8,17 @@ use native.Mathlib.Nat.{zero-add}
 use lib.ListN.{drop, getD, length, length-append, take}
 use lib.Seq.{length-take-le, take-all, take-at}
 use Rattle.standard.specs.Bits.{bitAt, bitOf, window, z}
-use Rattle.standard.specs.Generator.{State, after, wordAt}
+use Rattle.standard.specs.Generator.{wordAt}
+use Rattle.standard.specs.States.{Held, moved}
 use Rattle.standard.proofs.Listed.{getD-listed, length-listed}
 use Rattle.standard.proofs.Window.{window-cell, window-cells, window-ext, window-split}
-use Rattle.standard.proofs.Generator.{after-after, after-none}
+use Rattle.standard.proofs.Held.{moved-moved, moved-none}
 use Rattle.standard.specs.Notation.{_⊕_, _⟨_⟩, listed}
 use Rattle.standard.specs.Bits.{M}
 use Rattle.standard.specs.Integrity.{T}
 use Rattle.standard.proofs.Window.{window-lt}
 use Rattle.mac_registers.specs.Stored.{_‖₆₄_, keyOf, keyWords, packed, tagOf, tagWords, taggingOf}
-use Rattle.mac_registers.specs.Inner.{Good, Held, Width, fresh}
+use Rattle.mac_registers.specs.Inner.{Good, Holds, Width, fresh}
 use Rattle.standard.specs.States.{Stored}
 use Rattle.mac_registers.specs.Tagging.{updated}
 use Rattle.mac_blocks.specs.InnerWhole.{bitsOf, emptyOf}
@@ -28,17 +29,17 @@ use Rattle.mac_registers.proofs.Widths.{tag-words-16}
 use Rattle.mac_blocks.proofs.Moves.{block-is, fed-is}
 
 module _ (words : List ℕ) where
-  bit-drawn : (σ : State) → words ≡ listed (wordAt σ) 0 (length words) → (p : ℕ) → p < length words * 32 → bitsOf words p ≡ z (wordAt σ) p
+  bit-drawn : (σ : Held) → words ≡ listed (wordAt (σ .meaning)) 0 (length words) → (p : ℕ) → p < length words * 32 → bitsOf words p ≡ z (wordAt (σ .meaning)) p
   unfolding z bitAt
   bit-drawn σ e p h =
       ap (λ (x : ℕ). bitOf 32 x (p % 32))
-      (ap (λ (l : List ℕ). getD l (p / 32) 0) e ∙ getD-listed (wordAt σ) 0 (length words) (p / 32) (omega arith) ∙ ap (wordAt σ) (zero-add (p / 32)))
+      (ap (λ (l : List ℕ). getD l (p / 32) 0) e ∙ getD-listed (wordAt (σ .meaning)) 0 (length words) (p / 32) (omega arith) ∙ ap (wordAt (σ .meaning)) (zero-add (p / 32)))
 
   -- t bits from word n on
-  pub bits-drawn : (σ : State) → words ≡ listed (wordAt σ) 0 (length words) → (n t : ℕ) → n * 32 + t ≤ length words * 32
-      → window (bitsOf words) (n * 32) t ≡ window (z (wordAt (after n σ))) 0 t
+  pub bits-drawn : (σ : Held) → words ≡ listed (wordAt (σ .meaning)) 0 (length words) → (n t : ℕ) → n * 32 + t ≤ length words * 32
+      → window (bitsOf words) (n * 32) t ≡ window (z (wordAt (moved n σ .meaning))) 0 t
   bits-drawn σ e n t h =
-      window-ext (bitsOf words) (z (wordAt σ)) (n * 32) (n * 32) t (λ j l. bit-drawn σ e (n * 32 + j) (omega arith)) ∙ sym (window-after t n σ)
+      window-ext (bitsOf words) (z (wordAt (σ .meaning))) (n * 32) (n * 32) t (λ j l. bit-drawn σ e (n * 32 + j) (omega arith)) ∙ sym (window-after t n σ)
 
   module _ (small : (i : ℕ) → words ⟨ i ⟩ < 2 ^ 32) (at : ℕ) where
     one : window (bitsOf words) (at * 32) 32 ≡ words ⟨ at ⟩
@@ -94,21 +95,21 @@ pub words-lt : {w : ℕ} → Width w → (words : List ℕ) (at : ℕ) (r : List
 words-lt {w} v words at r e = rw (e, tag-back v (window (bitsOf words) (at * 32) (w * 8))) (window-lt (bitsOf words) (z-lt (λ j. words ⟨ j ⟩)) (at * 32) (w * 8))
 
 -- the words of a block are those that its generator draws next
-words-are : (w i : ℕ) (σ : State) (words f : List ℕ) → words ≡ listed (wordAt σ) 0 (length words) → i / 4 * 32 + w * 8 ≤ length words * 32
+words-are : (w i : ℕ) (σ : Held) (words f : List ℕ) → words ≡ listed (wordAt (σ .meaning)) 0 (length words) → i / 4 * 32 + w * 8 ≤ length words * 32
     → f ≡ tagWords w (window (bitsOf words) (i / 4 * 32) (w * 8))
-    → record { words = f; state = after (w / 4) (after (i / 4) σ) } ≡ fresh w (after (i / 4) σ)
+    → record { words = f; state = moved (w / 4) (moved (i / 4) σ) } ≡ fresh w (moved (i / 4) σ)
 unfolding fresh
 words-are w i σ words f drawn room e =
-    λ j. record { words = (e ∙ ap (tagWords w) (bits-drawn words σ drawn (i / 4) (w * 8) room)) j; state = after (w / 4) (after (i / 4) σ) }
+    λ j. record { words = (e ∙ ap (tagWords w) (bits-drawn words σ drawn (i / 4) (w * 8) room)) j; state = moved (w / 4) (moved (i / 4) σ) }
 
 -- a block more, with its words
-module _ (w : ℕ) (key tag words part : List ℕ) (σ : State) (held : Held (emptyOf w σ key tag)) (drawn : words ≡ listed (wordAt σ) 0 (length words)) where
+module _ (w : ℕ) (key tag words part : List ℕ) (σ : Held) (held : Holds (emptyOf w σ key tag)) (drawn : words ≡ listed (wordAt (σ .meaning)) 0 (length words)) where
   abbrev After : ℕ → List ℕ → List ℕ → Type 0
-  After i k t = emptyOf w (after (i / 4) σ) k t ≡ packed w (updated (w * 8) (taggingOf (emptyOf w σ key tag)) (take i part))
+  After i k t = emptyOf w (moved (i / 4) σ) k t ≡ packed w (updated (w * 8) (taggingOf (emptyOf w σ key tag)) (take i part))
 
   pub fed-none : After 0 key tag
   unfolding updated
-  fed-none = ap (λ (τ : State). emptyOf w τ key tag) (after-none σ) ∙ sym (held .packs)
+  fed-none = ap (λ (τ : Held). emptyOf w τ key tag) (moved-none σ) ∙ sym (held .packs)
 
   pub fed-on : (i : ℕ) (k t sum f k′ : List ℕ) → After i k t → i % 4 ≡ 0 → i + w ≤ length part → length part ≡ length words * 4
       → length (take (i + w - i) (drop i part)) ≡ w
@@ -117,8 +118,8 @@ module _ (w : ℕ) (key tag words part : List ℕ) (σ : State) (held : Held (em
       → k′ ≡ keyWords w (keyOf w k * 2 ^ (w * 8) % 2 ^ (w * 8 + w * 8) + tagOf w f)
       → After (i + w) k′ sum
   fed-on i k t sum f k′ so whole room long full es ef ek =
-      ap (λ (τ : State). emptyOf w τ k′ sum) (ap (λ (n : ℕ). after n σ) next ∙ sym (after-after (i / 4) (w / 4) σ))
-      ∙ fed-is s (held .good .a-width) block sum (record { words = f; state = after (w / 4) (after (i / 4) σ) }) k′ es (words-are w i σ words f drawn (omega arith) ef) ek
+      ap (λ (τ : Held). emptyOf w τ k′ sum) (ap (λ (n : ℕ). moved n σ) next ∙ sym (moved-moved (i / 4) (w / 4) σ))
+      ∙ fed-is s (held .good .a-width) block sum (record { words = f; state = moved (w / 4) (moved (i / 4) σ) }) k′ es (words-are w i σ words f drawn (omega arith) ef) ek
       ∙ block-is s (held-as so good) block refl full
       ∙ at-packed (λ x y. packed x (updated (x * 8) y block)) so good
       ∙ ap (packed w) (updated-on (w * 8) (taggingOf (emptyOf w σ key tag)) part i (i + w) (omega arith))
@@ -127,7 +128,7 @@ module _ (w : ℕ) (key tag words part : List ℕ) (σ : State) (held : Held (em
       block = take (i + w - i) (drop i part)
 
       s : Stored
-      s = emptyOf w (after (i / 4) σ) k t
+      s = emptyOf w (moved (i / 4) σ) k t
 
       good : Good w (updated (w * 8) (taggingOf (emptyOf w σ key tag)) (take i part))
       good = good-updated (take i part) (held .good)
@@ -137,9 +138,9 @@ module _ (w : ℕ) (key tag words part : List ℕ) (σ : State) (held : Held (em
 
   -- and all of them
   pub fed-all : (i : ℕ) (k t : List ℕ) → After i k t → i ≡ length part
-      → emptyOf w (after (length part / 4) σ) k t ≡ packed w (updated (w * 8) (taggingOf (emptyOf w σ key tag)) part)
+      → emptyOf w (moved (length part / 4) σ) k t ≡ packed w (updated (w * 8) (taggingOf (emptyOf w σ key tag)) part)
   fed-all i k t so e =
-      ap (λ (n : ℕ). emptyOf w (after (n / 4) σ) k t) (sym e) ∙ so
+      ap (λ (n : ℕ). emptyOf w (moved (n / 4) σ) k t) (sym e) ∙ so
       ∙ ap (λ (l : List ℕ). packed w (updated (w * 8) (taggingOf (emptyOf w σ key tag)) l)) (take-all i part (omega arith))
 
 -- a held struct where nothing waits

@@ -6,11 +6,12 @@ use native.Mathlib.Omega.{arith}
 use lib.ListN.{length, replicate, take}
 use Rattle.standard.specs.Notation.{_⊕_}
 use Rattle.standard.specs.Bits.{M, bitOf, window, z}
-use Rattle.standard.specs.Generator.{State, after, wordAt}
+use Rattle.standard.specs.Generator.{wordAt}
+use Rattle.standard.specs.States.{Held, moved}
 use Rattle.standard.specs.Integrity.{T}
 use Rattle.standard.proofs.Window.{window-lt}
 use Rattle.mac_registers.specs.Stored.{keyOf, keyWords, packed, tagOf, tagWords, taggingOf}
-use Rattle.mac_registers.specs.Inner.{Held, Width, Words, fresh}
+use Rattle.mac_registers.specs.Inner.{Holds, Width, Words, fresh}
 use Rattle.standard.specs.States.{Stored}
 use Rattle.mac_registers.specs.Tagging.{fed, updated}
 use Rattle.mac_registers.proofs.Cutting.{updated-block}
@@ -18,13 +19,13 @@ use Rattle.mac_registers.proofs.Message.{z-lt}
 use Rattle.mac_registers.proofs.Packed.{tag-back, width-most}
 
 -- fresh words as a number
-module _ {w : ℕ} (v : Width w) (σ : State) where
-  pub fresh-back : tagOf w (fresh w σ .words) ≡ window (z (wordAt σ)) 0 (w * 8)
+module _ {w : ℕ} (v : Width w) (σ : Held) where
+  pub fresh-back : tagOf w (fresh w σ .words) ≡ window (z (wordAt (σ .meaning))) 0 (w * 8)
   unfolding fresh
-  fresh-back = tag-back v (window (z (wordAt σ)) 0 (w * 8))
+  fresh-back = tag-back v (window (z (wordAt (σ .meaning))) 0 (w * 8))
 
   pub fresh-lt : (f : Words) → f ≡ fresh w σ → tagOf w (f .words) < 2 ^ (w * 8)
-  fresh-lt f e = rw (e, fresh-back) (window-lt (z (wordAt σ)) (z-lt (wordAt σ)) 0 (w * 8))
+  fresh-lt f e = rw (e, fresh-back) (window-lt (z (wordAt (σ .meaning))) (z-lt (wordAt (σ .meaning))) 0 (w * 8))
 
 -- as many words as a width has
 pub quarter : (w : ℕ) → w / 4 ≡ w * 8 / 32
@@ -39,7 +40,7 @@ pub fed-is : (s : Stored) → Width (s .width) → (block sum : List ℕ) (f : W
 unfolding packed fed taggingOf fresh
 fed-is s v block sum f key es ef ek =
     λ i. record {
-      generator = (ap (λ (x : Words). x .state) ef ∙ ap (λ (n : ℕ). after n (s .generator)) (quarter (s .width))) i;
+      generator = (ap (λ (x : Words). x .state) ef ∙ ap (λ (n : ℕ). moved n (s .generator)) (quarter (s .width))) i;
       key =
           (ek
           ∙ ap (λ (x : ℕ). keyWords (s .width) (keyOf (s .width) (s .key) * 2 ^ (s .width * 8) % 2 ^ (s .width * 8 + s .width * 8) + x))
@@ -51,7 +52,7 @@ fed-is s v block sum f key es ef ek =
     }
 
 -- a held struct: the count of what waits, and the struct with nothing waiting
-module _ (s : Stored) (h : Held s) where
+module _ (s : Stored) (h : Holds s) where
   pub cnt-is : length (taggingOf s .waiting) ≡ s .cnt
   unfolding packed
   cnt-is = ap (λ (x : Stored). x .cnt) (h .packs)
@@ -66,7 +67,7 @@ module _ (s : Stored) (h : Held s) where
   abbrev pub emptied : Stored
   emptied = record { generator = s .generator; key = s .key; tag = s .tag; rem = replicate 16 0; cnt = 0; width = s .width }
 
-  pub emptied-held : Held emptied
+  pub emptied-held : Holds emptied
   unfolding packed taggingOf
   emptied-held =
       record {

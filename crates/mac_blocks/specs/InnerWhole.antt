@@ -4,11 +4,12 @@ use mathlib.Core.Path.{_≡_}
 use Prim.Native.Nat.{ℕ, _*_, _/_, _≤_}
 use lib.ListN.{length, replicate}
 use Rattle.standard.specs.Bits.{z}
-use Rattle.standard.specs.Generator.{State, after, wordAt}
+use Rattle.standard.specs.Generator.{wordAt}
+use Rattle.standard.specs.States.{Held, moved}
 use Rattle.standard.specs.Notation.{_⟨_⟩, listed}
 use Rattle.standard.specs.States.{Stored}
 use Rattle.mac_registers.specs.Stored.{packed, taggingOf}
-use Rattle.mac_registers.specs.Inner.{Held}
+use Rattle.mac_registers.specs.Inner.{Holds}
 use Rattle.mac_registers.specs.Tagging.{updated}
 
 -- the bits of words drawn before they are used
@@ -16,14 +17,14 @@ abbrev pub bitsOf : List ℕ → ℕ → ℕ
 bitsOf words = z (λ j. words ⟨ j ⟩)
 
 -- a struct where nothing waits
-abbrev pub emptyOf : ℕ → State → List ℕ → List ℕ → Stored
+abbrev pub emptyOf : ℕ → Held → List ℕ → List ℕ → Stored
 emptyOf width σ key tag = record { generator = σ; key = key; tag = tag; rem = replicate 16 0; cnt = 0; width = width }
 
 -- the key pair and the tag after whole blocks, whatever generator drew the words
 abbrev pub fedBy : ℕ → List ℕ → List ℕ → List ℕ → List ℕ → List ℕ → List ℕ → Type 0
 fedBy width key tag words part key′ tag′ =
-    (σ : State) → Held (emptyOf width σ key tag) → words ≡ listed (wordAt σ) 0 (length words)
-    → emptyOf width (after (length part / 4) σ) key′ tag′ ≡ packed width (updated (width * 8) (taggingOf (emptyOf width σ key tag)) part)
+    (σ : Held) → Holds (emptyOf width σ key tag) → words ≡ listed (wordAt (σ .meaning)) 0 (length words)
+    → emptyOf width (moved (length part / 4) σ) key′ tag′ ≡ packed width (updated (width * 8) (taggingOf (emptyOf width σ key tag)) part)
 
 -- bytes of whole blocks, some where a block is left
 pub record Portion (width left r : ℕ) : Type 0 where

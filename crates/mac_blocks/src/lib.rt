@@ -6,7 +6,7 @@ ghost use Rattle.standard.specs.Bits.{window};
 ghost use Rattle.standard.specs.Boxes.{S₀-table, S₁-table};
 ghost use Rattle.mac_registers.specs.InnerBlocks.{Blocks};
 ghost use Rattle.mac_registers.specs.Stored.{packed, storedOf, tagWords, taggingOf};
-ghost use Rattle.mac_registers.specs.Inner.{Held, Width};
+ghost use Rattle.mac_registers.specs.Inner.{Holds, Width};
 ghost use Rattle.mac_registers.specs.Tagging.{updated};
 ghost use Rattle.mac_blocks.specs.InnerWhole.{Portion, bitsOf, fedBy};
 use mac_registers::Moved;
@@ -60,7 +60,7 @@ fn feed_all(width: usize, key: [u64; 4], tag: [u64; 2], words: &[u32], part: &[u
 
 // Whole blocks, at most 256 bytes, where nothing waits.
 fn feed(t0: &[u8; 256], t1: &[u8; 256], s: TagState, part: &[u8]) -> TagState
-    requires { ⌜ now t0 ≡ S₀-table ⌝ ∗ ⌜ now t1 ≡ S₁-table ⌝ ∗ ⌜ Held (storedOf s) ⌝ ∗ ⌜ (s .cnt ≡ 0) × (length (now part) ≤ 256) × ((n : ℕ) × (length (now part) ≡ n * s .width)) ⌝ }
+    requires { ⌜ now t0 ≡ S₀-table ⌝ ∗ ⌜ now t1 ≡ S₁-table ⌝ ∗ ⌜ Holds (storedOf s) ⌝ ∗ ⌜ (s .cnt ≡ 0) × (length (now part) ≤ 256) × ((n : ℕ) × (length (now part) ≡ n * s .width)) ⌝ }
     ensures { λ r. ⌜ (storedOf r ≡ packed (s .width) (updated (s .width * 8) (taggingOf (storedOf s)) (now (part .entry)))) × (r .cnt ≡ 0) ⌝ }
 {
     let width = s.width;
@@ -96,7 +96,7 @@ fn portion(width: usize, left: usize) -> usize
 
 // Whole blocks, as many as there are, where nothing waits.
 pub fn blocks(t0: &[u8; 256], t1: &[u8; 256], start: TagState, message: &[u8], from: usize) -> Moved
-    requires { ⌜ now t0 ≡ S₀-table ⌝ ∗ ⌜ now t1 ≡ S₁-table ⌝ ∗ ⌜ Held (storedOf start) ⌝ ∗ ⌜ (start .cnt ≡ 0) × (from ≤ length (now message)) ⌝ }
+    requires { ⌜ now t0 ≡ S₀-table ⌝ ∗ ⌜ now t1 ≡ S₁-table ⌝ ∗ ⌜ Holds (storedOf start) ⌝ ∗ ⌜ (start .cnt ≡ 0) × (from ≤ length (now message)) ⌝ }
     ensures { λ r. ⌜ Blocks (storedOf start) (now (message .entry)) from (storedOf (r .s)) (r .at) ⌝ }
 {
     let width = start.width;

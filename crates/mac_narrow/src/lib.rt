@@ -1,18 +1,19 @@
 // Tags of 32 bits in bulk: one loop takes a step of the growing run and looks up a message word, so that each hides the other's waits.
 ghost use lib.ListN.{length};
 ghost use mathlib.Core.Path.{_≡_};
-ghost use Prim.Native.Nat.{_%_, _≤_};
+ghost use Prim.Native.Nat.{_%_, _≤_, _<_};
 ghost use Rattle.standard.specs.Boxes.{S₀-table, S₁-table};
 ghost use Rattle.zuc_turn.specs.InnerRun.{Laid, Low, raisedOf};
 ghost use Rattle.mac_registers.specs.InnerBlocks.{Blocks};
 ghost use Rattle.mac_registers.specs.Stored.{storedOf};
-ghost use Rattle.mac_registers.specs.Inner.{Held};
+ghost use Rattle.mac_registers.specs.Inner.{Holds};
 ghost use Rattle.mac_registers.specs.Tagging.{updated};
 ghost use Rattle.mac_narrow.specs.InnerNarrow.{Tagged, taggingAt};
 use mac_registers::Moved;
 use mac_registers::TagState;
 use mac_registers::sums::joined;
 use mac_registers::sums::sum_32;
+use zuc_bulk::index_after;
 use zuc_bulk::lay_state;
 use zuc_bulk::rest;
 use zuc_bulk::smaller;
@@ -21,11 +22,12 @@ use zuc_turn::Halves;
 use zuc_turn::raised;
 use zuc_turn::turn;
 
-// What the loop carries beside the run: the registers, the key pair and the tag.
+// What the loop carries beside the run: the registers, the key pair and the tag; and the index at which the cells will start.
 pub struct Narrow {
     pub h: Halves,
     pub key: u64,
     pub tag: u32,
+    pub start: usize,
 }
 
 // At most 64 blocks of four bytes. The cells and pairs are at the front, before and after.
@@ -37,7 +39,7 @@ fn words_32(
     start: Narrow,
     part: &[u8],
 ) -> Narrow
-    requires { ⌜ now high ≡ raisedOf S₀-table ⌝ ∗ ⌜ now low ≡ S₁-table ⌝ ∗ ⌜ Laid (now run) (now pairs) 0 ⌝ ∗ ⌜ Low (start .h) ⌝ ∗ ⌜ (length (now part) ≤ 256) × (length (now part) % 4 ≡ 0) ⌝ }
+    requires { ⌜ now high ≡ raisedOf S₀-table ⌝ ∗ ⌜ now low ≡ S₁-table ⌝ ∗ ⌜ Laid (now run) (now pairs) 0 ⌝ ∗ ⌜ Low (start .h) × (start .start < 16) ⌝ ∗ ⌜ (length (now part) ≤ 256) × (length (now part) % 4 ≡ 0) ⌝ }
     ensures { λ r. ⌜ Tagged (now (run .exit)) (now (pairs .exit)) r (updated 32 (taggingAt (now (run .entry)) start) (now (part .entry))) ⌝ }
 {
     let mut h = start.h;
@@ -53,7 +55,12 @@ fn words_32(
         h = t.h;
     }
     rest(run, pairs, n);
-    Narrow { h, key, tag }
+    Narrow {
+        h,
+        key,
+        tag,
+        start: index_after(start.start, n),
+    }
 }
 
 // Whole blocks, as many as there are, where nothing waits.
@@ -64,7 +71,7 @@ pub fn blocks_32(
     message: &[u8],
     from: usize,
 ) -> Moved
-    requires { ⌜ now t0 ≡ S₀-table ⌝ ∗ ⌜ now t1 ≡ S₁-table ⌝ ∗ ⌜ Held (storedOf start) ⌝ ∗ ⌜ (start .cnt ≡ 0) × (from ≤ length (now message)) ⌝ ∗ ⌜ start .width ≡ 4 ⌝ }
+    requires { ⌜ now t0 ≡ S₀-table ⌝ ∗ ⌜ now t1 ≡ S₁-table ⌝ ∗ ⌜ Holds (storedOf start) ⌝ ∗ ⌜ (start .cnt ≡ 0) × (from ≤ length (now message)) ⌝ ∗ ⌜ start .width ≡ 4 ⌝ }
     ensures { λ r. ⌜ Blocks (storedOf start) (now (message .entry)) from (storedOf (r .s)) (r .at) ⌝ }
 {
     let g = start.g;
@@ -78,6 +85,7 @@ pub fn blocks_32(
         h,
         key: key[0],
         tag: tag[0] as u32,
+        start: g.start,
     };
     let mut i = from;
     while 4 <= message.len() - i {
@@ -87,7 +95,7 @@ pub fn blocks_32(
     }
     let last = s.h;
     let next = TagState {
-        g: state_of(&run, last),
+        g: state_of(&run, last, s.start),
         key: [s.key, 0, 0, 0],
         tag: [s.tag as u64, 0],
         rem: [0; 16],

@@ -7,8 +7,9 @@ use native.Mathlib.Omega.{arith}
 use lib.ListN.{List·getD-append, drop, getD, length}
 use lib.Seq.{getD-drop}
 use Rattle.standard.specs.Bits.{M, bitAt, bitOf, window, z}
-use Rattle.standard.specs.Generator.{State, after, wordAt}
-use Rattle.standard.proofs.Generator.{wordAt-after}
+use Rattle.standard.specs.Generator.{wordAt}
+use Rattle.standard.specs.States.{Held, moved}
+use Rattle.standard.proofs.Held.{wordAt-moved}
 use Rattle.standard.proofs.Window.{bitAt-lt, window-ext}
 
 pub z-lt : (words : ℕ → ℕ) (i : ℕ) → z words i < 2
@@ -31,9 +32,9 @@ M-drop c m i = ap₂ (bitOf 8) (getD-drop c m (i / 8) 0 ∙ ap (λ (x : ℕ). ge
     r = omega arith
 
 -- the keystream after w words
-pub z-after : (w : ℕ) (σ : State) (i : ℕ) → z (wordAt (after w σ)) i ≡ z (wordAt σ) (w * 32 + i)
+pub z-after : (w : ℕ) (h : Held) (i : ℕ) → z (wordAt (moved w h .meaning)) i ≡ z (wordAt (h .meaning)) (w * 32 + i)
 unfolding z bitAt
-z-after w σ i = ap₂ (bitOf 32) (wordAt-after w (i / 32) σ ∙ ap (wordAt σ) q) r
+z-after w h i = ap₂ (bitOf 32) (wordAt-moved w (i / 32) h ∙ ap (wordAt (h .meaning)) q) r
   where
     q : w + i / 32 ≡ (w * 32 + i) / 32
     q = omega arith
@@ -41,7 +42,7 @@ z-after w σ i = ap₂ (bitOf 32) (wordAt-after w (i / 32) σ ∙ ap (wordAt σ)
     r : i % 32 ≡ (w * 32 + i) % 32
     r = omega arith
 
-pub window-after : (t w : ℕ) (σ : State) → window (z (wordAt (after w σ))) 0 t ≡ window (z (wordAt σ)) (w * 32) t
-window-after t w σ =
-    window-ext (z (wordAt (after w σ))) (z (wordAt σ)) 0 (w * 32) t
-    (λ j l. ap (z (wordAt (after w σ))) (zero-add j) ∙ z-after w σ j)
+pub window-after : (t w : ℕ) (h : Held) → window (z (wordAt (moved w h .meaning))) 0 t ≡ window (z (wordAt (h .meaning))) (w * 32) t
+window-after t w h =
+    window-ext (z (wordAt (moved w h .meaning))) (z (wordAt (h .meaning))) 0 (w * 32) t
+    (λ j l. ap (z (wordAt (moved w h .meaning))) (zero-add j) ∙ z-after w h j)

@@ -16,17 +16,16 @@ use lib.Bits.{xor-lt}
 use lib.Pow.{split}
 use borrow.Author.Tests.{eq-eqb, eqb-true, lt-ltb, ltb-true, ne-eqb}
 use Rattle.standard.specs.Bits.{M, bitOf, z}
-use Rattle.standard.specs.Generator.{State, wordAt}
-use Rattle.standard.specs.States.{wellFormed, Stored, allZero, formed, unused}
+use Rattle.standard.specs.Generator.{wordAt}
+use Rattle.standard.specs.States.{Held, Stored, allZero, formed, heldFormed, unused}
 use Rattle.standard.specs.Notation.{_⟨_⟩}
 use Rattle.standard.specs.Integrity.{T, isWidth}
-use Rattle.standard.proofs.Cells.{cells-wellFormed, wellFormed-cells}
-use Rattle.standard.proofs.Generator.{Sound, sound-after}
+use Rattle.standard.proofs.Held.{Ready, heldFormed-ready, ready-heldFormed, ready-moved}
 use Rattle.standard.proofs.Sum.{sum-lt}
 use Rattle.standard.proofs.Window.{bitOf-lt, window-lt}
 use Rattle.mac_registers.specs.Tagging.{Tagging, absorbed, begun-EIA3, begun-ZUC256, fed, updated}
 use Rattle.mac_registers.specs.Stored.{keyOf, keyWords, packed, tagOf, tagWords, taggingOf}
-use Rattle.mac_registers.specs.Inner.{Good, Held, Width}
+use Rattle.mac_registers.specs.Inner.{Good, Holds, Width}
 use Rattle.mac_registers.proofs.Message.{z-lt}
 use Rattle.mac_registers.proofs.Cutting.{absorbed-fills, absorbed-waits}
 use Rattle.mac_registers.proofs.Widths.{tag-words-16, words-16, words-8}
@@ -44,7 +43,7 @@ and-both e f = rw (e, f) refl
 
 -- what the types of the struct's fields say
 pub record Typed (s : Stored) : Type 0 where
-  pub cells : length (s .generator .cells) ≡ 16
+  pub cells : length (s .generator .meaning .cells) ≡ 16
   pub keys : length (s .key) ≡ 4
   pub tags : length (s .tag) ≡ 2
   pub rems : length (s .rem) ≡ 16
@@ -213,7 +212,7 @@ module _ (w : ℕ) (k t : List ℕ) (keys : length k ≡ 4) (tags : length t ≡
 -- what `formed` says
 module _ (s : Stored) (typed : Typed s) (ok : formed s ≡ true) where
   pub record Facts : Type 0 where
-    pub sound : Sound (s .generator)
+    pub sound : Ready (s .generator)
     pub width : Width (s .width)
     pub short : s .cnt < s .width
     pub rest : drop (s .cnt) (s .rem) ≡ replicate (16 - s .cnt) 0
@@ -223,7 +222,7 @@ module _ (s : Stored) (typed : Typed s) (ok : formed s ≡ true) where
   unfolding formed
   facts =
       record {
-        sound = wellFormed-cells (s .generator .cells) (typed .cells) (and-l a b (and-l (a && b) c (and-l (a && b && c) d (and-l (a && b && c && d) e ok))));
+        sound = heldFormed-ready (s .generator) (typed .cells) (and-l a b (and-l (a && b) c (and-l (a && b && c) d (and-l (a && b && c && d) e ok))));
         width = width-is (s .width) (and-r a b (and-l (a && b) c (and-l (a && b && c) d (and-l (a && b && c && d) e ok))));
         unused-zero = and-r (a && b) c (and-l (a && b && c) d (and-l (a && b && c && d) e ok));
         short = ltb-true (s .cnt) (s .width) (and-r (a && b && c) d (and-l (a && b && c && d) e ok));
@@ -233,7 +232,7 @@ module _ (s : Stored) (typed : Typed s) (ok : formed s ≡ true) where
       }
     where
       a : Bool
-      a = wellFormed (s .generator .cells)
+      a = heldFormed (s .generator)
 
       b : Bool
       b = isWidth (s .width)
@@ -279,7 +278,7 @@ module _ (s : Stored) (typed : Typed s) (ok : formed s ≡ true) where
         short = omega (arith, waiting-length, facts .short);
       }
 
-  pub formed-held : Held s
+  pub formed-held : Holds s
   formed-held = record { good = is-good; packs = packs-back }
 
 -- a packing reads back
@@ -321,10 +320,10 @@ module _ {w : ℕ} {st : Tagging} (g : Good w st) where
   unfolding formed packed
   well-formed =
       and-both
-      (and-both (and-both (and-both (cells-wellFormed (g .sound)) (is-width (g .a-width))) unused-packed) (lt-ltb (length (st .waiting)) w (g .short)))
+      (and-both (and-both (and-both (ready-heldFormed (g .sound)) (is-width (g .a-width))) unused-packed) (lt-ltb (length (st .waiting)) w (g .short)))
       (ap allZero (drop-at (st .waiting) (replicate (16 - length (st .waiting)) 0) (length (st .waiting)) refl) ∙ are-zeros (16 - length (st .waiting)))
 
-  pub holds : Held (packed w st)
+  pub holds : Holds (packed w st)
   unfolding packed
   holds = record { good = subst (Good w) (sym reads) g; packs = ap (packed w) reads }
 
@@ -333,21 +332,21 @@ pub at-packed : {A : Type 0} (F : ℕ → Tagging → A) {w : ℕ} {st : Tagging
 unfolding packed
 at-packed F {w} {st} e g = ap (λ (x : Stored). F (x .width) (taggingOf x)) e ∙ ap (F w) (reads g)
 
-pub held-as : {w : ℕ} {st : Tagging} {s : Stored} → s ≡ packed w st → Good w st → Held s
-held-as e g = subst Held (sym e) (holds g)
+pub held-as : {w : ℕ} {st : Tagging} {s : Stored} → s ≡ packed w st → Good w st → Holds s
+held-as e g = subst Holds (sym e) (holds g)
 
 -- starts, bytes and updates keep states good
-pub good-EIA3 : (σ : State) → Sound σ → Good 4 (begun-EIA3 σ)
+pub good-EIA3 : (h : Held) → Ready h → Good 4 (begun-EIA3 h)
 unfolding begun-EIA3
-good-EIA3 σ h = record { a-width = inl refl; sound = sound-after 2 σ h; tag-lt = omega arith; short = omega arith }
+good-EIA3 h r = record { a-width = inl refl; sound = ready-moved 2 h r; tag-lt = omega arith; short = omega arith }
 
-pub good-ZUC256 : {w : ℕ} → Width w → (σ : State) → Sound σ → Good w (begun-ZUC256 (w * 8) σ)
+pub good-ZUC256 : {w : ℕ} → Width w → (h : Held) → Ready h → Good w (begun-ZUC256 (w * 8) h)
 unfolding begun-ZUC256
-good-ZUC256 {w} v σ h =
+good-ZUC256 {w} v h r =
     record {
       a-width = v;
-      sound = sound-after (3 * (w * 8 / 32)) σ h;
-      tag-lt = window-lt (z (wordAt σ)) (z-lt (wordAt σ)) 0 (w * 8);
+      sound = ready-moved (3 * (w * 8 / 32)) h r;
+      tag-lt = window-lt (z (wordAt (h .meaning))) (z-lt (wordAt (h .meaning))) 0 (w * 8);
       short = omega (arith, width-whole v .1);
     }
 
@@ -356,7 +355,7 @@ unfolding fed
 good-fed {w} {st} g block =
     record {
       a-width = g .a-width;
-      sound = sound-after (w * 8 / 32) (st .generator) (g .sound);
+      sound = ready-moved (w * 8 / 32) (st .generator) (g .sound);
       tag-lt =
           xor-lt (w * 8) (st .tag) (T (w * 8) (bitOf (w * 8 + w * 8) (st .key)) 0 (M block) (w * 8)) (g .tag-lt)
           (sum-lt (w * 8) (bitOf (w * 8 + w * 8) (st .key)) (bitOf-lt (w * 8 + w * 8) (st .key)) 0 (M block) (w * 8));

@@ -10,7 +10,8 @@ use lib.Bits.{xor-block, xor-lt}
 use lib.Pow.{high, low, mod-pow-add, shl-shr, shr-lt}
 use Rattle.standard.specs.Notation.{_⊕_, _⟨_⟩}
 use Rattle.standard.specs.Bits.{M, bitOf, window, z}
-use Rattle.standard.specs.Generator.{State, after, next, wordAt}
+use Rattle.standard.specs.Generator.{wordAt}
+use Rattle.standard.specs.States.{Held, moved}
 use Rattle.standard.specs.Integrity.{T}
 use Rattle.standard.proofs.Generator.{wordAt-lt}
 use Rattle.standard.proofs.Linear.{M-lt}
@@ -120,24 +121,24 @@ shifted a b c small hb =
     regroup u v x = omega arith
 
 -- fresh words: one more word in a number of 128 bits, and what the first w/4 words make
-module _ (σ : State) where
+module _ (g : Held) where
   abbrev Z : ℕ → ℕ
-  Z = z (wordAt σ)
+  Z = z (wordAt (g .meaning))
 
   words-small : (hi lo j : ℕ) → hi ‖₆₄ lo ≡ window Z 0 (j * 32) → (hi ‖₆₄ lo) < 2 ^ (j * 32)
-  words-small hi lo j e = rw e (window-lt Z (z-lt (wordAt σ)) 0 (j * 32))
+  words-small hi lo j e = rw e (window-lt Z (z-lt (wordAt (g .meaning))) 0 (j * 32))
 
   pub words-none : 0 ‖₆₄ 0 ≡ window Z 0 (0 * 32)
   unfolding window
   words-none = refl
 
-  pub words-more : (hi lo w j : ℕ) → j < 4 → lo < 2 ^ 64 → w ≡ wordAt σ j → hi ‖₆₄ lo ≡ window Z 0 (j * 32)
+  pub words-more : (hi lo w j : ℕ) → j < 4 → lo < 2 ^ 64 → w ≡ wordAt (g .meaning) j → hi ‖₆₄ lo ≡ window Z 0 (j * 32)
       → between hi lo ‖₆₄ (lo % 2 ^ 32 * 2 ^ 32 + w) ≡ window Z 0 ((j + 1) * 32)
   unfolding z
   words-more hi lo w j h hl ew e =
       shifted hi lo w (lt-of-lt-of-le (words-small hi lo j e) (pow-le-pow-right {n = 2} (omega arith) most)) hl
-      ∙ ap₂ (λ (x y : ℕ). x * 2 ^ 32 + y) e (ew ∙ ap (wordAt σ) (sym (zero-add j)))
-      ∙ sym (window-cells 32 (omega arith) (wordAt σ) 0 j (wordAt-lt σ (0 + j)))
+      ∙ ap₂ (λ (x y : ℕ). x * 2 ^ 32 + y) e (ew ∙ ap (wordAt (g .meaning)) (sym (zero-add j)))
+      ∙ sym (window-cells 32 (omega arith) (wordAt (g .meaning)) 0 j (wordAt-lt (g .meaning) (0 + j)))
       ∙ ap (window Z 0) next
     where
       next : j * 32 + 32 ≡ (j + 1) * 32
@@ -146,8 +147,8 @@ module _ (σ : State) where
       most : j * 32 ≤ 96
       most = omega arith
 
-  module _ (w hi lo : ℕ) (state : State) (es : state ≡ after (w / 4) σ) (e : hi ‖₆₄ lo ≡ window Z 0 (w / 4 * 32)) (hl : lo < 2 ^ 64) where
-    pub fresh-wide : w ≡ 16 → record { words = hi ∷ lo ∷ []; state = state } ≡ fresh w σ
+  module _ (w hi lo : ℕ) (state : Held) (es : state ≡ moved (w / 4) g) (e : hi ‖₆₄ lo ≡ window Z 0 (w / 4 * 32)) (hl : lo < 2 ^ 64) where
+    pub fresh-wide : w ≡ 16 → record { words = hi ∷ lo ∷ []; state = state } ≡ fresh w g
     unfolding fresh
     fresh-wide f =
         λ i. record {
@@ -158,7 +159,7 @@ module _ (σ : State) where
         bits : w / 4 * 32 ≡ w * 8
         bits = omega arith
 
-    pub fresh-narrow : Width w → (w ≡ 16 → ⊥) → record { words = lo ∷ 0 ∷ []; state = state } ≡ fresh w σ
+    pub fresh-narrow : Width w → (w ≡ 16 → ⊥) → record { words = lo ∷ 0 ∷ []; state = state } ≡ fresh w g
     unfolding fresh tagWords
     fresh-narrow v not =
         λ i. record { words = (ap (λ (x : ℕ). x ∷ 0 ∷ []) (low-is ∙ e ∙ ap (window Z 0) bits) ∙ sym spelled) i; state = es i }

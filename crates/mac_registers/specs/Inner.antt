@@ -7,10 +7,10 @@ use lib.Dec.{eqb}
 use lib.ListN.{getD, length}
 use Rattle.standard.specs.Notation.{if_then_else_}
 use Rattle.standard.specs.Bits.{window, z}
-use Rattle.standard.specs.Generator.{State, after, next, wordAt}
-use Rattle.standard.specs.States.{Stored}
-use Rattle.standard.proofs.Cells.{Cells}
-use Rattle.zuc.specs.Reading.{stateOf}
+use Rattle.standard.specs.Generator.{wordAt}
+use Rattle.standard.specs.States.{Held, Stored, moved}
+use Rattle.standard.proofs.Held.{Ready}
+use Rattle.zuc.specs.Reading.{heldOf}
 use Rattle.mac_registers.specs.Stored.{packed, tagWords, taggingOf}
 use Rattle.mac_registers.specs.Tagging.{Tagging}
 use Rattle.mac_registers.specs.declared.Fresh.{Fresh}
@@ -22,33 +22,33 @@ Width width = (width ≡ 4) ⊎ ((width ≡ 8) ⊎ (width ≡ 16))
 -- a state that a struct of a width can hold, and a struct that holds one: what the inner functions ask
 pub record Good (width : ℕ) (st : Tagging) : Type 0 where
   pub a-width : Width width
-  pub sound : Cells (st .generator .cells)
+  pub sound : Ready (st .generator)
   pub tag-lt : st .tag < 2 ^ (width * 8)
   pub short : length (st .waiting) < width
 
-pub record Held (s : Stored) : Type 0 where
+pub record Holds (s : Stored) : Type 0 where
   pub good : Good (s .width) (taggingOf s)
   pub packs : packed (s .width) (taggingOf s) ≡ s
 
 -- what the code draws at once: the words of t bits, and the generator after them
 pub record Words : Type 0 where
   pub words : List ℕ
-  pub state : State
+  pub state : Held
 
 abbrev pub wordsOf : Fresh → Words
-wordsOf r = record { words = r .words; state = stateOf (r .next) }
+wordsOf r = record { words = r .words; state = heldOf (r .next) }
 
 -- the next t bits of a generator, and its state after them
-unfoldable pub fresh : ℕ → State → Words
-fresh width σ = record { words = tagWords width (window (z (wordAt σ)) 0 (width * 8)); state = after (width / 4) σ }
+unfoldable pub fresh : ℕ → Held → Words
+fresh width h = record { words = tagWords width (window (z (wordAt (h .meaning))) 0 (width * 8)); state = moved (width / 4) h }
 
 -- what both have: a tag, and the next 2t bits in the key pair
-unfoldable pub begun : ℕ → ℕ → State → Tagging
-begun t tag σ = record { generator = after (2 * (t / 32)) σ; key = window (z (wordAt σ)) 0 (t + t); tag = tag; waiting = [] }
+unfoldable pub begun : ℕ → ℕ → Held → Tagging
+begun t tag h = record { generator = moved (2 * (t / 32)) h; key = window (z (wordAt (h .meaning))) 0 (t + t); tag = tag; waiting = [] }
 
 -- ZUC-128 and EIA3: the generator after the extra word
-unfoldable pub extraState : Tagging → ℕ → State
-extraState st n = if eqb n 0 then st .generator else next (st .generator)
+unfoldable pub extraState : Tagging → ℕ → Held
+extraState st n = if eqb n 0 then st .generator else moved 1 (st .generator)
 
 -- the byte that closes a message, by the byte after it and the r bits of it that are the message's: a set bit stands after them
 unfoldable pub lastByte : List ℕ → ℕ → ℕ

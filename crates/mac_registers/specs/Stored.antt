@@ -5,15 +5,15 @@ use lib.Dec.{eqb}
 use lib.ListN.{length, replicate, take}
 use Rattle.standard.specs.Notation.{_⟨_⟩, if_then_else_}
 use Rattle.standard.specs.States.{Stored}
-use Rattle.zuc.specs.Reading.{stateOf}
+use Rattle.zuc.specs.Reading.{heldOf}
 use Rattle.mac_registers.specs.Tagging.{Tagging}
 use Rattle.mac_registers.specs.declared.TagState.{TagState}
 
 infixl 50 _‖₆₄_
 infixl 50 _‖₁₂₈_
--- the struct's fields, its generator read as the standard's state
+-- the struct's fields, its generator read as what it means and its index
 abbrev pub storedOf : TagState → Stored
-storedOf s = record { generator = stateOf (s .g); key = s .key; tag = s .tag; rem = s .rem; cnt = s .cnt; width = s .width }
+storedOf s = record { generator = heldOf (s .g); key = s .key; tag = s .tag; rem = s .rem; cnt = s .cnt; width = s .width }
 
 -- concatenation a || b, by the width of b
 abbrev pub _‖₆₄_ : ℕ → ℕ → ℕ

@@ -6,27 +6,28 @@ use lib.Dec.{eqb, ltb}
 use lib.ListN.{drop, length, take}
 use Rattle.standard.specs.Notation.{_⊕_, if_then_else_}
 use Rattle.standard.specs.Bits.{M, bitOf, window, z}
-use Rattle.standard.specs.Generator.{State, after, word, wordAt}
+use Rattle.standard.specs.Generator.{word, wordAt}
 use Rattle.standard.specs.Integrity.{T}
+use Rattle.standard.specs.States.{Held, moved}
 
 -- the generator, the key pair (the next 2t keystream bits to use), the tag of t bits, and the bytes that wait for a block
 pub record Tagging : Type 0 where
-  pub generator : State
+  pub generator : Held
   pub key : ℕ
   pub tag : ℕ
   pub waiting : List ℕ
 
 -- ZUC-128 and EIA3: no tag yet, and the first 64 bits in the key pair
-unfoldable pub begun-EIA3 : State → Tagging
-begun-EIA3 σ = record { generator = after 2 σ; key = window (z (wordAt σ)) 0 64; tag = 0; waiting = [] }
+unfoldable pub begun-EIA3 : Held → Tagging
+begun-EIA3 h = record { generator = moved 2 h; key = window (z (wordAt (h .meaning))) 0 64; tag = 0; waiting = [] }
 
 -- ZUC-256: the first t bits in the tag, and the next 2t in the key pair
-unfoldable pub begun-ZUC256 : ℕ → State → Tagging
-begun-ZUC256 t σ =
+unfoldable pub begun-ZUC256 : ℕ → Held → Tagging
+begun-ZUC256 t h =
     record {
-      generator = after (3 * (t / 32)) σ;
-      key = window (z (wordAt σ)) t (t + t);
-      tag = window (z (wordAt σ)) 0 t;
+      generator = moved (3 * (t / 32)) h;
+      key = window (z (wordAt (h .meaning))) t (t + t);
+      tag = window (z (wordAt (h .meaning))) 0 t;
       waiting = [];
     }
 
@@ -34,8 +35,8 @@ begun-ZUC256 t σ =
 unfoldable pub fed : ℕ → Tagging → List ℕ → Tagging
 fed t st block =
     record {
-      generator = after (t / 32) (st .generator);
-      key = st .key * 2 ^ t % 2 ^ (t + t) + window (z (wordAt (st .generator))) 0 t;
+      generator = moved (t / 32) (st .generator);
+      key = st .key * 2 ^ t % 2 ^ (t + t) + window (z (wordAt (st .generator .meaning))) 0 t;
       tag = st .tag ⊕ T t (bitOf (t + t) (st .key)) 0 (M block) t;
       waiting = [];
     }
@@ -70,7 +71,7 @@ closed-ZUC256 t st tail l = lastTag t (ended t st tail l) (drop (l / 8) tail) (l
 
 -- ZUC-128 and EIA3: one word more, the key pair's low half where no bit is left over, and else a fresh one
 unfoldable pub extraWord : Tagging → ℕ → ℕ
-extraWord st n = if eqb n 0 then st .key % 2 ^ 32 else word (st .generator)
+extraWord st n = if eqb n 0 then st .key % 2 ^ 32 else word (st .generator .meaning)
 
 unfoldable pub closed-EIA3 : Tagging → List ℕ → ℕ → ℕ
 closed-EIA3 st tail l = closed-ZUC256 32 st tail l ⊕ extraWord (ended 32 st tail l) (leftOver (ended 32 st tail l) l)

@@ -5,7 +5,7 @@ ghost use mathlib.Core.Path.{_≡_};
 ghost use Prim.Native.Nat.{};
 ghost use Rattle.standard.specs.Integrity.{isWidth};
 ghost use Rattle.mac_registers.specs.Stored.{storedOf};
-ghost use Rattle.mac_registers.specs.Inner.{Held};
+ghost use Rattle.mac_registers.specs.Inner.{Holds};
 ghost use Rattle.standard.specs.States.{allZero, formed, unused, zeroStored};
 use zuc::Zuc;
 
@@ -63,7 +63,7 @@ fn unused_zero(width: usize, key: [u64; 4], tag: [u64; 2]) -> bool
 
 // Whether a state is well formed; then it holds what the inner functions ask.
 pub fn is_formed(s: super::TagState) -> bool
-    ensures { λ r. ⌜ (r ≡ formed (storedOf s)) × (r ≡ true → Held (storedOf s)) ⌝ }
+    ensures { λ r. ⌜ (r ≡ formed (storedOf s)) × (r ≡ true → Holds (storedOf s)) ⌝ }
 {
     let g = s.g;
     let key = s.key;
@@ -94,6 +94,7 @@ pub fn zero_state() -> super::TagState
             s: [0u32; 16],
             r1: 0,
             r2: 0,
+            start: 0,
         },
         key: [0u64; 4],
         tag: [0u64; 2],

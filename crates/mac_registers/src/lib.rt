@@ -4,10 +4,10 @@ ghost use mathlib.Core.Path.{_≡_};
 ghost use Prim.Native.Nat.{_+_, _*_, _≤_, _<_, _^_, _%_};
 ghost use Rattle.standard.specs.Bits.{M, bitOf, window};
 ghost use Rattle.standard.specs.Boxes.{S₀-table, S₁-table};
-ghost use Rattle.standard.proofs.Cells.{Cells};
+ghost use Rattle.standard.proofs.Held.{Ready};
 ghost use Rattle.standard.specs.Integrity.{T};
 ghost use Rattle.standard.specs.Notation.{_⊕_};
-ghost use Rattle.zuc.specs.Reading.{stateOf};
+ghost use Rattle.zuc.specs.Reading.{heldOf};
 ghost use Rattle.mac_registers.specs.Stored.{keyOf, keyWords, tagOf, tagWords};
 ghost use Rattle.mac_registers.specs.Inner.{Width, fresh, wordsOf};
 use sums::across;
@@ -91,33 +91,36 @@ pub fn key_on(width: usize, key: [u64; 4], words: [u64; 2]) -> [u64; 4]
     }
 }
 
-// The next keystream bits, as many as a tag has. It calls the parts of a draw, which are then inlined in this one loop.
+// The next keystream bits, as many as a tag has.
 pub fn draw_words(t0: &[u8; 256], t1: &[u8; 256], width: usize, g: Zuc) -> Fresh
-    requires { ⌜ now t0 ≡ S₀-table ⌝ ∗ ⌜ now t1 ≡ S₁-table ⌝ ∗ ⌜ Cells (stateOf g .cells) ⌝ ∗ ⌜ Width width ⌝ }
-    ensures { λ r. ⌜ wordsOf r ≡ fresh width (stateOf g) ⌝ }
+    requires { ⌜ now t0 ≡ S₀-table ⌝ ∗ ⌜ now t1 ≡ S₁-table ⌝ ∗ ⌜ Ready (heldOf g) ⌝ ∗ ⌜ Width width ⌝ }
+    ensures { λ r. ⌜ wordsOf r ≡ fresh width (heldOf g) ⌝ }
 {
-    let mut z = g;
+    let mut s = g.s;
+    let mut r1 = g.r1;
+    let mut r2 = g.r2;
+    let mut start = g.start;
     let mut hi: u64 = 0;
     let mut lo: u64 = 0;
     let mut j: usize = 0;
     while j < width / 4 {
-        let moved = zuc::shift(z);
-        let out = zuc::f(t0, t1, moved);
-        let word = out.word ^ zuc::x3(moved);
-        let next = out.next;
-        z = next;
+        let out = zuc::draw_at(t0, t1, &mut s, start, r1, r2);
         hi = across(hi, lo);
-        lo = joined((lo % 0x1_0000_0000) as u32, word);
+        lo = joined((lo % 0x1_0000_0000) as u32, out.w);
+        r1 = out.r1;
+        r2 = out.r2;
+        start = (start + 1) % 16;
         j += 1;
     }
+    let next = Zuc { s, r1, r2, start };
     if width == 16 {
         return Fresh {
             words: [hi, lo],
-            next: z,
+            next,
         };
     }
     Fresh {
         words: [lo, 0],
-        next: z,
+        next,
     }
 }

@@ -7,7 +7,7 @@ use native.Mathlib.Nat.{suc-mul, zero-mul}
 use lib.ListN.{drop, getD, length, length-append, replicate, set, take}
 use lib.Seq.{append-snoc, drop-cons, set-at, take-all, take-at}
 use Rattle.mac_registers.specs.Stored.{packed, taggingOf}
-use Rattle.mac_registers.specs.Inner.{Held}
+use Rattle.mac_registers.specs.Inner.{Holds}
 use Rattle.standard.specs.States.{Stored}
 use Rattle.mac_registers.specs.Tagging.{absorbed, fed, updated}
 use Rattle.mac_registers.specs.InnerBlocks.{Blocks}
@@ -23,7 +23,7 @@ set-next n l rem k b e m h =
     d : n - k ≡ suc (n - suc k)
     d = omega arith
 
-module _ (s : Stored) (h : Held s) where
+module _ (s : Stored) (h : Holds s) where
   -- the waiting bytes with one more
   pub rem-next : (b : ℕ) → set (s .rem) (s .cnt) b ≡ taggingOf s .waiting ++ (b ∷ replicate (16 - suc (s .cnt)) 0)
   unfolding packed
@@ -68,7 +68,7 @@ one-count zero w at p e le lt = absurd (omega (arith, zero-mul w))
 one-count (suc zero) w at p e le lt = omega (arith, suc-mul 0 w, zero-mul w)
 one-count (suc (suc n)) w at p e le lt = absurd (omega (arith, suc-mul (suc n) w, suc-mul n w))
 
-pub one-block-is : (s : Stored) (h : Held s) (b : ℕ) → length (s .rem) ≡ 16 → s .width ≤ s .cnt + 1 → (r : Stored) (at : ℕ)
+pub one-block-is : (s : Stored) (h : Holds s) (b : ℕ) → length (s .rem) ≡ 16 → s .width ≤ s .cnt + 1 → (r : Stored) (at : ℕ)
     → Blocks (emptied s h) (take (s .width) (set (s .rem) (s .cnt) b)) 0 r at → r ≡ packed (s .width) (absorbed (s .width * 8) (taggingOf s) b)
 unfolding fed taggingOf
 one-block-is s h b len l r at k =

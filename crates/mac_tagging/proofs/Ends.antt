@@ -11,7 +11,7 @@ use Rattle.standard.proofs.Sum.{sum-lt}
 use Rattle.standard.proofs.Window.{bitOf-lt, window-lt}
 use Rattle.zuc.specs.Inner.{Draw}
 use Rattle.mac_registers.specs.Stored.{packed, tagWords, taggingOf}
-use Rattle.mac_registers.specs.Inner.{Good, Held}
+use Rattle.mac_registers.specs.Inner.{Good, Holds}
 use Rattle.standard.specs.States.{Stored}
 use Rattle.mac_registers.specs.Tagging.{Tagging, closed-EIA3, closed-ZUC256, ended, extraWord, lastTag, leftOver, updated}
 use Rattle.mac_tagging.specs.InnerSteps.{extraDraw}
@@ -36,7 +36,7 @@ module _ {w : ℕ} {st : Tagging} (g : Good w st) (tail : List ℕ) (l : ℕ) (e
   unfolding ended
   end-good = good-updated (take (l / 8) tail) g
 
-  pub end-held : Held e
+  pub end-held : Holds e
   end-held = held-as up (good-updated (take (l / 8) tail) g)
 
   -- what is said of the struct's own reading, with the bits left over counted by it, said of the abstract end

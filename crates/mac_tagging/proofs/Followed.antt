@@ -11,11 +11,12 @@ use lib.ListN.{drop, drop-of-length-le, length, length-append, length-drop}
 use lib.Seq.{drop-append-le}
 use lib.Bits.{bitXor}
 use lib.Pow.{low}
+use Rattle.standard.proofs.Held.{moved-moved}
+use Rattle.standard.specs.States.{Held, moved}
 use Rattle.standard.specs.Notation.{_⊕_}
 use Rattle.standard.specs.Bits.{M, bitOf, window, z}
-use Rattle.standard.specs.Generator.{State, after, wordAt}
+use Rattle.standard.specs.Generator.{wordAt}
 use Rattle.standard.specs.Integrity.{T}
-use Rattle.standard.proofs.Generator.{after-after}
 use Rattle.standard.proofs.Xor.{xor-assoc}
 use Rattle.standard.proofs.Window.{bit-window, window-ext, window-lt, window-split}
 use Rattle.standard.proofs.Sum.{sum-ext, sum-split}
@@ -25,10 +26,10 @@ use Rattle.mac_registers.proofs.Cutting.{absorbed-fills, absorbed-waits}
 use Rattle.mac_registers.proofs.Widths.{moved-up}
 
 -- o is where the windows start, first the tag at the start, blocks the number of whole blocks, taken the bytes in them, drawn the words
-pub record Followed (t o : ℕ) (σ : State) (first : ℕ) (m : List ℕ) (st : Tagging) (blocks taken drawn : ℕ) : Type 0 where
-  pub generator-is : st .generator ≡ after drawn σ
-  pub key-is : st .key ≡ window (z (wordAt σ)) (o + taken * 8) (t + t)
-  pub tag-is : st .tag ≡ first ⊕ T t (z (wordAt σ)) o (M m) (taken * 8)
+pub record Followed (t o : ℕ) (σ : Held) (first : ℕ) (m : List ℕ) (st : Tagging) (blocks taken drawn : ℕ) : Type 0 where
+  pub generator-is : st .generator ≡ moved drawn σ
+  pub key-is : st .key ≡ window (z (wordAt (σ .meaning))) (o + taken * 8) (t + t)
+  pub tag-is : st .tag ≡ first ⊕ T t (z (wordAt (σ .meaning))) o (M m) (taken * 8)
   pub waiting-is : st .waiting ≡ drop taken m
   pub taken-is : taken * 8 ≡ blocks * t
   pub drawn-is : drawn * 32 ≡ o + taken * 8 + t + t
@@ -45,9 +46,9 @@ key-on s b t a =
     ∙ ap (λ (x : ℕ). x * 2 ^ t) (low (window s a t) t (window-lt s b (a + t) t)))
     ∙ sym (window-split s (a + t) t t)
 
-module _ (t : ℕ) (whole : t % 32 ≡ 0) (o : ℕ) (σ : State) (first : ℕ) where
+module _ (t : ℕ) (whole : t % 32 ≡ 0) (o : ℕ) (σ : Held) (first : ℕ) where
   abbrev Z : ℕ → ℕ
-  Z = z (wordAt σ)
+  Z = z (wordAt (σ .meaning))
 
   -- n bits of a block, in the registers and over the keystream
   block-sum : (m : List ℕ) (st : Tagging) (k c w : ℕ) → Followed t o σ first m st k c w → (M′ : ℕ → ℕ) (joined : List ℕ) (n : ℕ) → n ≤ t
@@ -57,7 +58,7 @@ module _ (t : ℕ) (whole : t % 32 ≡ 0) (o : ℕ) (σ : State) (first : ℕ) w
       ap₂ bitXor (f .tag-is)
       (ap (λ (x : ℕ). T t (bitOf (t + t) x) 0 M′ n) (f .key-is)
       ∙ sum-ext t (bitOf (t + t) (window Z (o + c * 8) (t + t))) Z 0 (o + c * 8) M′ (λ j. M joined (c * 8 + j)) n
-      (λ j l. ap (bitOf (t + t) (window Z (o + c * 8) (t + t))) (zero-add j) ∙ bit-window Z (z-lt (wordAt σ)) (o + c * 8) (t + t) j (omega arith))
+      (λ j l. ap (bitOf (t + t) (window Z (o + c * 8) (t + t))) (zero-add j) ∙ bit-window Z (z-lt (wordAt (σ .meaning))) (o + c * 8) (t + t) j (omega arith))
       rest)
       ∙ xor-assoc first (T t Z o (M m) (c * 8)) (T t Z (o + c * 8) (λ j. M joined (c * 8 + j)) n)
       ∙ ap (bitXor first)
@@ -95,11 +96,11 @@ module _ (t : ℕ) (whole : t % 32 ≡ 0) (o : ℕ) (σ : State) (first : ℕ) w
   fills m st k c w b f h =
       rw (absorbed-fills t st b h)
       (record {
-        generator-is = ap (after (t / 32)) (f .generator-is) ∙ after-after w (t / 32) σ;
+        generator-is = ap (moved (t / 32)) (f .generator-is) ∙ moved-moved w (t / 32) σ;
         key-is =
-            ap₂ (λ (x : ℕ) (y : State). x * 2 ^ t % 2 ^ (t + t) + window (z (wordAt y)) 0 t) (f .key-is) (f .generator-is)
+            ap₂ (λ (x : ℕ) (y : Held). x * 2 ^ t % 2 ^ (t + t) + window (z (wordAt (y .meaning))) 0 t) (f .key-is) (f .generator-is)
             ∙ ap (λ (x : ℕ). window Z (o + c * 8) (t + t) * 2 ^ t % 2 ^ (t + t) + x) (window-after t w σ ∙ ap (λ (x : ℕ). window Z x t) (f .drawn-is))
-            ∙ key-on Z (z-lt (wordAt σ)) t (o + c * 8)
+            ∙ key-on Z (z-lt (wordAt (σ .meaning))) t (o + c * 8)
             ∙ ap (λ (x : ℕ). window Z x (t + t)) next;
         tag-is =
             block-sum m st k c w f (M (st .waiting ++ (b ∷ []))) (m ++ (b ∷ [])) t (omega arith)
@@ -145,10 +146,10 @@ module _ (t : ℕ) (whole : t % 32 ≡ 0) (o : ℕ) (σ : State) (first : ℕ) w
       (λ j l. waiting-bits m st k c w f rest j))
       (ap (λ (x : ℕ). window (bitOf (t + t) x) n t) (f .key-is)
       ∙ window-ext (bitOf (t + t) (window Z (o + c * 8) (t + t))) Z n (o + (c * 8 + n)) t
-      (λ j l. bit-window Z (z-lt (wordAt σ)) (o + c * 8) (t + t) (n + j) (omega arith) ∙ ap Z (omega arith)))
+      (λ j l. bit-window Z (z-lt (wordAt (σ .meaning))) (o + c * 8) (t + t) (n + j) (omega arith) ∙ ap Z (omega arith)))
 
 -- how many blocks: floor(L/t), L the bits of m or up to seven more
-pub blocks-are : {t o : ℕ} {σ : State} {first : ℕ} {m : List ℕ} {st : Tagging} {k c w : ℕ} → t % 32 ≡ 0 → Followed t o σ first m st k c w
+pub blocks-are : {t o : ℕ} {σ : Held} {first : ℕ} {m : List ℕ} {st : Tagging} {k c w : ℕ} → t % 32 ≡ 0 → Followed t o σ first m st k c w
     → (L : ℕ) → length m * 8 ≤ L → L < length m * 8 + 8 → L / t ≡ k
 blocks-are {t} {m = m} {k = k} whole f L le lt =
     div-eq-of-lt-le {k = k} t (omega (arith, f .taken-is, f .within)) (omega (arith, f .taken-is, f .short, suc-mul k t, add-one k, e))

@@ -12,12 +12,14 @@ use lib.Seq.{length-take-le}
 use lib.Bits.{bitXor, xor-zero-r}
 use lib.Pow.{low}
 use borrow.Author.Tests.{eq-eqb, ne-eqb}
+use Rattle.standard.proofs.Held.{moved-more, word-moved}
+use Rattle.standard.specs.States.{Held, moved}
 use Rattle.standard.specs.Notation.{_⊕_, ceil, if_then_else_}
 use Rattle.standard.specs.Bits.{M, window, z}
-use Rattle.standard.specs.Generator.{State, after, next, word, wordAt}
+use Rattle.standard.specs.Generator.{word, wordAt}
 use Rattle.standard.specs.Integrity.{T, drawnAfter-EIA3, drawnAfter-ZUC256, drawnByTag-EIA3, drawnByTag-ZUC256, tag-EIA3, tag-ZUC256}
 use Rattle.standard.proofs.Extra.{extra-word, window-word}
-use Rattle.standard.proofs.Generator.{after-more, word-after, wordAt-lt}
+use Rattle.standard.proofs.Generator.{wordAt-lt}
 use Rattle.standard.proofs.Window.{window-lt, window-split}
 use Rattle.mac_registers.specs.Tagging.{Tagging, begun-EIA3, begun-ZUC256, closed-EIA3, closed-ZUC256, ended, extraWord, lastTag, leftOver, updated}
 use Rattle.mac_registers.specs.Inner.{extraState}
@@ -26,7 +28,7 @@ use Rattle.mac_registers.proofs.Cutting.{updated-append}
 use Rattle.mac_tagging.proofs.Followed.{Followed, Follows, blocks-are, followed-all, followed-tag}
 
 -- what both rules share: o and first as the start has them
-module _ (t : ℕ) (whole : t % 32 ≡ 0) (o : ℕ) (σ : State) (first : ℕ) (start : Tagging) (w₀ : ℕ) (at-start : Followed t o σ first [] start 0 0 w₀) where
+module _ (t : ℕ) (whole : t % 32 ≡ 0) (o : ℕ) (σ : Held) (first : ℕ) (start : Tagging) (w₀ : ℕ) (at-start : Followed t o σ first [] start 0 0 w₀) where
   pub after-updates : (m : List ℕ) → Follows t whole o σ first m (updated t start m)
   after-updates m = followed-all t whole o σ first m [] start 0 0 w₀ at-start
 
@@ -47,13 +49,13 @@ module _ (t : ℕ) (whole : t % 32 ≡ 0) (o : ℕ) (σ : State) (first : ℕ) (
     at-end = after-updates taken-in
 
     pub closed-is : closed-ZUC256 t (updated t start m) tail l
-        ≡ first ⊕ T t (z (wordAt σ)) o (M (m ++ tail)) (length m * 8 + l) ⊕ window (z (wordAt σ)) (o + (length m * 8 + l)) t
+        ≡ first ⊕ T t (z (wordAt (σ .meaning))) o (M (m ++ tail)) (length m * 8 + l) ⊕ window (z (wordAt (σ .meaning))) (o + (length m * 8 + l)) t
     unfolding closed-ZUC256 lastTag leftOver taken-in
     closed-is =
         ap (λ (x : Tagging). lastTag t x (drop (l / 8) tail) (leftOver x l)) ended-is
         ∙ followed-tag t whole o σ first taken-in st (at-end .0) (at-end .1) (at-end .2) f (drop (l / 8) tail) (length (st .waiting) * 8 + l % 8)
         (omega (arith, waiting, f .short, f .within, f .taken-is))
-        ∙ ap₂ (λ (x : List ℕ) (y : ℕ). first ⊕ T t (z (wordAt σ)) o (M x) y ⊕ window (z (wordAt σ)) (o + y) t)
+        ∙ ap₂ (λ (x : List ℕ) (y : ℕ). first ⊕ T t (z (wordAt (σ .meaning))) o (M x) y ⊕ window (z (wordAt (σ .meaning))) (o + y) t)
         (append-assoc m (take (l / 8) tail) (drop (l / 8) tail) ∙ ap (λ (x : List ℕ). m ++ x) (take-append-drop (l / 8) tail))
         (omega (arith, waiting, f .within, taken-bits))
       where
@@ -66,14 +68,14 @@ module _ (t : ℕ) (whole : t % 32 ≡ 0) (o : ℕ) (σ : State) (first : ℕ) (
         waiting : length (st .waiting) ≡ length taken-in - at-end .1
         waiting = ap length (f .waiting-is) ∙ length-drop (at-end .1) taken-in
 
-begun-ZUC256-followed : (t : ℕ) → t % 32 ≡ 0 → 0 < t → (σ : State)
-    → Followed t t σ (window (z (wordAt σ)) 0 t) [] (begun-ZUC256 t σ) 0 0 (3 * (t / 32))
+begun-ZUC256-followed : (t : ℕ) → t % 32 ≡ 0 → 0 < t → (σ : Held)
+    → Followed t t σ (window (z (wordAt (σ .meaning))) 0 t) [] (begun-ZUC256 t σ) 0 0 (3 * (t / 32))
 unfolding begun-ZUC256 T
 begun-ZUC256-followed t whole pos σ =
     record {
       generator-is = refl;
-      key-is = ap (λ (x : ℕ). window (z (wordAt σ)) x (t + t)) (sym (add-zero t));
-      tag-is = sym (xor-zero-r (window (z (wordAt σ)) 0 t));
+      key-is = ap (λ (x : ℕ). window (z (wordAt (σ .meaning))) x (t + t)) (sym (add-zero t));
+      tag-is = sym (xor-zero-r (window (z (wordAt (σ .meaning))) 0 t));
       waiting-is = refl;
       taken-is = omega arith;
       drawn-is = omega arith;
@@ -81,7 +83,7 @@ begun-ZUC256-followed t whole pos σ =
       short = omega arith;
     }
 
-begun-EIA3-followed : (σ : State) → Followed 32 0 σ 0 [] (begun-EIA3 σ) 0 0 2
+begun-EIA3-followed : (σ : Held) → Followed 32 0 σ 0 [] (begun-EIA3 σ) 0 0 2
 unfolding begun-EIA3 T
 begun-EIA3-followed σ =
     record {
@@ -114,33 +116,33 @@ words-drawn t w k whole e = omega (arith, e, split, whole-t)
     split : u * (3 + k) ≡ u * 3 + u * k
     split = mul-add u 3 k
 
-module _ (t : ℕ) (whole : t % 32 ≡ 0) (pos : 0 < t) (σ : State) where
+module _ (t : ℕ) (whole : t % 32 ≡ 0) (pos : 0 < t) (σ : Held) where
   abbrev first : ℕ
-  first = window (z (wordAt σ)) 0 t
+  first = window (z (wordAt (σ .meaning))) 0 t
 
   followed : (m : List ℕ) → Follows t whole t σ first m (updated t (begun-ZUC256 t σ) m)
   followed = after-updates t whole t σ first (begun-ZUC256 t σ) (3 * (t / 32)) (begun-ZUC256-followed t whole pos σ)
 
   drawn-at : (m : List ℕ) (L : ℕ) → length m * 8 ≤ L → L < length m * 8 + 8
-      → updated t (begun-ZUC256 t σ) m .generator ≡ after (t / 32 * (3 + L / t)) σ
+      → updated t (begun-ZUC256 t σ) m .generator ≡ moved (t / 32 * (3 + L / t)) σ
   drawn-at m L le lt =
       followed m .3 .generator-is
-      ∙ ap (λ (n : ℕ). after n σ)
+      ∙ ap (λ (n : ℕ). moved n σ)
       (words-drawn t (followed m .2) (followed m .0) whole (omega (arith, followed m .3 .drawn-is, followed m .3 .taken-is))
       ∙ ap (λ (n : ℕ). t / 32 * (3 + n)) (sym (blocks-are whole (followed m .3) L le lt)))
 
   -- the words drawn by a start and updates of m
-  pub drawn-ZUC256 : (m : List ℕ) → updated t (begun-ZUC256 t σ) m .generator ≡ after (drawnAfter-ZUC256 t (length m)) σ
+  pub drawn-ZUC256 : (m : List ℕ) → updated t (begun-ZUC256 t σ) m .generator ≡ moved (drawnAfter-ZUC256 t (length m)) σ
   drawn-ZUC256 m = drawn-at m (8 * length m) (omega arith) (omega arith)
 
   module _ (m tail : List ℕ) (l : ℕ) (fits : l ≤ length tail * 8) where
     -- THE RULE, at every width: a start, updates of m in any cutting, and a closing by l bits of a tail
-    pub rule-ZUC256 : closed-ZUC256 t (updated t (begun-ZUC256 t σ) m) tail l ≡ tag-ZUC256 t (wordAt σ) (m ++ tail) (length m * 8 + l)
+    pub rule-ZUC256 : closed-ZUC256 t (updated t (begun-ZUC256 t σ) m) tail l ≡ tag-ZUC256 t (wordAt (σ .meaning)) (m ++ tail) (length m * 8 + l)
     unfolding tag-ZUC256
     rule-ZUC256 = closed-is t whole t σ first (begun-ZUC256 t σ) (3 * (t / 32)) (begun-ZUC256-followed t whole pos σ) m tail l fits
 
     -- and the words drawn when it is closed: no word more than the updates of its whole bytes
-    pub drawn-closing-ZUC256 : ended t (updated t (begun-ZUC256 t σ) m) tail l .generator ≡ after (drawnByTag-ZUC256 t (length m * 8 + l)) σ
+    pub drawn-closing-ZUC256 : ended t (updated t (begun-ZUC256 t σ) m) tail l .generator ≡ moved (drawnByTag-ZUC256 t (length m * 8 + l)) σ
     unfolding ended
     drawn-closing-ZUC256 =
         ap (λ (x : Tagging). x .generator) (sym (updated-append t (begun-ZUC256 t σ) m (take (l / 8) tail)))
@@ -149,14 +151,14 @@ module _ (t : ℕ) (whole : t % 32 ≡ 0) (pos : 0 < t) (σ : State) where
         bytes : length (m ++ take (l / 8) tail) ≡ length m + l / 8
         bytes = length-append m (take (l / 8) tail) ∙ ap (λ (n : ℕ). length m + n) (length-take-le (l / 8) tail (omega arith))
 
-module _ (σ : State) where
+module _ (σ : Held) where
   followed-EIA3 : (m : List ℕ) → Follows 32 refl 0 σ 0 m (updated 32 (begun-EIA3 σ) m)
   followed-EIA3 = after-updates 32 refl 0 σ 0 (begun-EIA3 σ) 2 (begun-EIA3-followed σ)
 
-  pub drawn-EIA3 : (m : List ℕ) → updated 32 (begun-EIA3 σ) m .generator ≡ after (drawnAfter-EIA3 (length m)) σ
+  pub drawn-EIA3 : (m : List ℕ) → updated 32 (begun-EIA3 σ) m .generator ≡ moved (drawnAfter-EIA3 (length m)) σ
   drawn-EIA3 m =
       followed-EIA3 m .3 .generator-is
-      ∙ ap (λ (n : ℕ). after n σ)
+      ∙ ap (λ (n : ℕ). moved n σ)
       (omega (arith, followed-EIA3 m .3 .drawn-is, followed-EIA3 m .3 .taken-is, followed-EIA3 m .3 .within, followed-EIA3 m .3 .short))
 
   -- with n bits left over, the extra word is word number ceil(L/32) + 1, and the last one drawn
@@ -173,17 +175,17 @@ module _ (σ : State) where
     waiting : length (st .waiting) ≡ length m - followed-EIA3 m .1
     waiting = ap length (followed-EIA3 m .3 .waiting-is) ∙ length-drop (followed-EIA3 m .1) m
 
-    extraWord-is : extraWord st left ≡ wordAt σ (ceil L 32 + 1)
+    extraWord-is : extraWord st left ≡ wordAt (σ .meaning) (ceil L 32 + 1)
     unfolding extraWord
     extraWord-is =
         ⊎-elim
-        (λ e. ap (λ (x : Bool). if x then st .key % 2 ^ 32 else word (st .generator)) (eq-eqb left 0 e)
+        (λ e. ap (λ (x : Bool). if x then st .key % 2 ^ 32 else word (st .generator .meaning)) (eq-eqb left 0 e)
         ∙ ap (λ (x : ℕ). x % 2 ^ 32) (f .key-is ∙ window-split S (0 + c * 8) 32 32)
-        ∙ low (window S (0 + c * 8) 32) 32 (window-lt S (z-lt (wordAt σ)) (0 + c * 8 + 32) 32)
+        ∙ low (window S (0 + c * 8) 32) 32 (window-lt S (z-lt (wordAt (σ .meaning))) (0 + c * 8 + 32) 32)
         ∙ ap (λ (x : ℕ). window S x 32) (at e)
-        ∙ window-word (wordAt σ) (ceil L 32 + 1) (wordAt-lt σ (ceil L 32 + 1)))
-        (λ p. ap (λ (x : Bool). if x then st .key % 2 ^ 32 else word (st .generator)) (ne-eqb left 0 (λ e. omega arith))
-        ∙ ap word (f .generator-is) ∙ word-after w σ ∙ ap (wordAt σ) (drawn p))
+        ∙ window-word (wordAt (σ .meaning)) (ceil L 32 + 1) (wordAt-lt (σ .meaning) (ceil L 32 + 1)))
+        (λ p. ap (λ (x : Bool). if x then st .key % 2 ^ 32 else word (st .generator .meaning)) (ne-eqb left 0 (λ e. omega arith))
+        ∙ ap (λ (k : Held). word (k .meaning)) (f .generator-is) ∙ word-moved w σ ∙ ap (wordAt (σ .meaning)) (drawn p))
         (eq-zero-or-pos left)
       where
         f : Followed 32 0 σ 0 m st (followed-EIA3 m .0) (followed-EIA3 m .1) (followed-EIA3 m .2)
@@ -196,7 +198,7 @@ module _ (σ : State) where
         w = followed-EIA3 m .2
 
         S : ℕ → ℕ
-        S = z (wordAt σ)
+        S = z (wordAt (σ .meaning))
 
         at : left ≡ 0 → 0 + c * 8 + 32 ≡ (ceil L 32 + 1) * 32
         at e =
@@ -207,15 +209,15 @@ module _ (σ : State) where
         drawn : 0 < left → w ≡ ceil L 32 + 1
         drawn p = omega (arith, waiting, f .within, f .taken-is, f .drawn-is, f .short)
 
-    extraState-is : extraState st left ≡ after (drawnByTag-EIA3 L) σ
+    extraState-is : extraState st left ≡ moved (drawnByTag-EIA3 L) σ
     unfolding extraState
     extraState-is =
         ⊎-elim
-        (λ e. ap (λ (x : Bool). if x then st .generator else next (st .generator)) (eq-eqb left 0 e)
-        ∙ f .generator-is ∙ ap (λ (n : ℕ). after n σ) (omega (arith, waiting, f .within, f .taken-is, f .drawn-is)))
-        (λ p. ap (λ (x : Bool). if x then st .generator else next (st .generator)) (ne-eqb left 0 (λ e. omega arith))
-        ∙ ap next (f .generator-is) ∙ sym (after-more (followed-EIA3 m .2) σ)
-        ∙ ap (λ (n : ℕ). after n σ) (omega (arith, waiting, f .within, f .taken-is, f .drawn-is, f .short)))
+        (λ e. ap (λ (x : Bool). if x then st .generator else moved 1 (st .generator)) (eq-eqb left 0 e)
+        ∙ f .generator-is ∙ ap (λ (n : ℕ). moved n σ) (omega (arith, waiting, f .within, f .taken-is, f .drawn-is)))
+        (λ p. ap (λ (x : Bool). if x then st .generator else moved 1 (st .generator)) (ne-eqb left 0 (λ e. omega arith))
+        ∙ ap (moved 1) (f .generator-is) ∙ sym (moved-more (followed-EIA3 m .2) σ)
+        ∙ ap (λ (n : ℕ). moved n σ) (omega (arith, waiting, f .within, f .taken-is, f .drawn-is, f .short)))
         (eq-zero-or-pos left)
       where
         f : Followed 32 0 σ 0 m st (followed-EIA3 m .0) (followed-EIA3 m .1) (followed-EIA3 m .2)
@@ -233,20 +235,20 @@ module _ (σ : State) where
     bits = omega (arith, length-append m (take (l / 8) tail), length-take-le (l / 8) tail (omega arith))
 
     -- THE RULE of ZUC-128 and EIA3
-    pub rule-EIA3 : closed-EIA3 (updated 32 (begun-EIA3 σ) m) tail l ≡ tag-EIA3 (wordAt σ) (m ++ tail) (length m * 8 + l)
+    pub rule-EIA3 : closed-EIA3 (updated 32 (begun-EIA3 σ) m) tail l ≡ tag-EIA3 (wordAt (σ .meaning)) (m ++ tail) (length m * 8 + l)
     unfolding closed-EIA3 leftOver tag-EIA3
     rule-EIA3 =
         ap₂ bitXor
         (closed-is 32 refl 0 σ 0 (begun-EIA3 σ) 2 (begun-EIA3-followed σ) m tail l fits
-        ∙ ap (λ (x : ℕ). T 32 (z (wordAt σ)) 0 (M (m ++ tail)) (length m * 8 + l) ⊕ window (z (wordAt σ)) x 32) (zero-add (length m * 8 + l)))
+        ∙ ap (λ (x : ℕ). T 32 (z (wordAt (σ .meaning))) 0 (M (m ++ tail)) (length m * 8 + l) ⊕ window (z (wordAt (σ .meaning))) x 32) (zero-add (length m * 8 + l)))
         (ap (λ (x : Tagging). extraWord x (length (x .waiting) * 8 + l % 8)) end-is
         ∙ extraWord-is (m ++ take (l / 8) tail) (l % 8) (omega arith)
-        ∙ ap (λ (x : ℕ). wordAt σ (ceil x 32 + 1)) bits
-        ∙ sym (extra-word (wordAt σ) (wordAt-lt σ) (length m * 8 + l)))
+        ∙ ap (λ (x : ℕ). wordAt (σ .meaning) (ceil x 32 + 1)) bits
+        ∙ sym (extra-word (wordAt (σ .meaning)) (wordAt-lt (σ .meaning)) (length m * 8 + l)))
 
-    pub drawn-closing-EIA3 : extraState end (leftOver end l) ≡ after (drawnByTag-EIA3 (length m * 8 + l)) σ
+    pub drawn-closing-EIA3 : extraState end (leftOver end l) ≡ moved (drawnByTag-EIA3 (length m * 8 + l)) σ
     unfolding leftOver
     drawn-closing-EIA3 =
         ap (λ (x : Tagging). extraState x (length (x .waiting) * 8 + l % 8)) end-is
         ∙ extraState-is (m ++ take (l / 8) tail) (l % 8) (omega arith)
-        ∙ ap (λ (x : ℕ). after (ceil x 32 + 2) σ) bits
+        ∙ ap (λ (x : ℕ). moved (ceil x 32 + 2) σ) bits

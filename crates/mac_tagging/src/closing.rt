@@ -6,7 +6,7 @@ ghost use Prim.Native.Nat.{_+_, _-_, _*_, _/_, _<_, _≤_, _^_};
 ghost use Rattle.standard.specs.Boxes.{S₀-table, S₁-table};
 ghost use Rattle.zuc.specs.Inner.{drawnOf};
 ghost use Rattle.mac_registers.specs.Stored.{storedOf, tagWords, taggingOf};
-ghost use Rattle.mac_registers.specs.Inner.{Held, lastByte};
+ghost use Rattle.mac_registers.specs.Inner.{Holds, lastByte};
 ghost use Rattle.mac_registers.specs.Tagging.{closed-EIA3, closed-ZUC256, lastTag};
 ghost use Rattle.mac_tagging.specs.InnerSteps.{extraDraw};
 use super::updates::update;
@@ -24,7 +24,7 @@ fn marked(b: u8, r: usize) -> u8
 
 // The block that closes a message: what waits, the bits left over marked, and zeros.
 fn last_block(s: TagState, tail: &[u8], q: usize, r: usize) -> [u8; 16]
-    requires { ⌜ Held (storedOf s) ⌝ ∗ ⌜ (r < 8) × (q * 8 + r ≤ length (now tail) * 8) ⌝ }
+    requires { ⌜ Holds (storedOf s) ⌝ ∗ ⌜ (r < 8) × (q * 8 + r ≤ length (now tail) * 8) ⌝ }
     ensures { λ x. ⌜ x ≡ take (s .cnt) (s .rem) ++ (lastByte (drop q (now (tail .entry))) r ∷ replicate (15 - s .cnt) 0) ⌝ }
 {
     let cnt = s.cnt;
@@ -38,7 +38,7 @@ fn last_block(s: TagState, tail: &[u8], q: usize, r: usize) -> [u8; 16]
 }
 
 fn last_tag(s: TagState, tail: &[u8], q: usize, r: usize) -> [u64; 2]
-    requires { ⌜ Held (storedOf s) ⌝ ∗ ⌜ (r < 8) × (q * 8 + r ≤ length (now tail) * 8) ⌝ }
+    requires { ⌜ Holds (storedOf s) ⌝ ∗ ⌜ (r < 8) × (q * 8 + r ≤ length (now tail) * 8) ⌝ }
     ensures { λ x. ⌜ x ≡ tagWords (s .width) (lastTag (s .width * 8) (taggingOf (storedOf s)) (drop q (now (tail .entry))) (s .cnt * 8 + r)) ⌝ }
 {
     let block = last_block(s, tail, q, r);
@@ -49,7 +49,7 @@ fn last_tag(s: TagState, tail: &[u8], q: usize, r: usize) -> [u64; 2]
 
 // The closing of a ZUC-256 tag by l bits of a tail.
 pub fn close_256(t0: &[u8; 256], t1: &[u8; 256], s: TagState, tail: &[u8], l: usize) -> [u64; 2]
-    requires { ⌜ now t0 ≡ S₀-table ⌝ ∗ ⌜ now t1 ≡ S₁-table ⌝ ∗ ⌜ Held (storedOf s) ⌝ ∗ ⌜ l ≤ length (now tail) * 8 ⌝ }
+    requires { ⌜ now t0 ≡ S₀-table ⌝ ∗ ⌜ now t1 ≡ S₁-table ⌝ ∗ ⌜ Holds (storedOf s) ⌝ ∗ ⌜ l ≤ length (now tail) * 8 ⌝ }
     ensures { λ x. ⌜ x ≡ tagWords (s .width) (closed-ZUC256 (s .width * 8) (taggingOf (storedOf s)) (now (tail .entry)) l) ⌝ }
 {
     let q = l / 8;
@@ -59,7 +59,7 @@ pub fn close_256(t0: &[u8; 256], t1: &[u8; 256], s: TagState, tail: &[u8], l: us
 
 // The extra word of ZUC-128 and EIA3 with n bits left over, and the generator after it.
 fn extra(t0: &[u8; 256], t1: &[u8; 256], s: TagState, n: usize) -> Drawn
-    requires { ⌜ now t0 ≡ S₀-table ⌝ ∗ ⌜ now t1 ≡ S₁-table ⌝ ∗ ⌜ Held (storedOf s) ⌝ ∗ ⌜ s .width ≡ 4 ⌝ }
+    requires { ⌜ now t0 ≡ S₀-table ⌝ ∗ ⌜ now t1 ≡ S₁-table ⌝ ∗ ⌜ Holds (storedOf s) ⌝ ∗ ⌜ s .width ≡ 4 ⌝ }
     ensures { λ r. ⌜ drawnOf r ≡ extraDraw (taggingOf (storedOf s)) n ⌝ }
 {
     let key = s.key;
@@ -75,7 +75,7 @@ fn extra(t0: &[u8; 256], t1: &[u8; 256], s: TagState, n: usize) -> Drawn
 
 // The closing of a ZUC-128 or EIA3 tag.
 pub fn close_128(t0: &[u8; 256], t1: &[u8; 256], s: TagState, tail: &[u8], l: usize) -> u32
-    requires { ⌜ now t0 ≡ S₀-table ⌝ ∗ ⌜ now t1 ≡ S₁-table ⌝ ∗ ⌜ Held (storedOf s) ⌝ ∗ ⌜ s .width ≡ 4 ⌝ ∗ ⌜ l ≤ length (now tail) * 8 ⌝ }
+    requires { ⌜ now t0 ≡ S₀-table ⌝ ∗ ⌜ now t1 ≡ S₁-table ⌝ ∗ ⌜ Holds (storedOf s) ⌝ ∗ ⌜ s .width ≡ 4 ⌝ ∗ ⌜ l ≤ length (now tail) * 8 ⌝ }
     ensures { λ x. ⌜ x ≡ closed-EIA3 (taggingOf (storedOf s)) (now (tail .entry)) l ⌝ }
 {
     let q = l / 8;

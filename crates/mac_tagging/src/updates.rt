@@ -3,10 +3,10 @@ ghost use lib.ListN.{length};
 ghost use mathlib.Core.Path.{_≡_};
 ghost use Prim.Native.Nat.{_*_, _<_};
 ghost use Rattle.standard.specs.Boxes.{S₀-table, S₁-table};
-ghost use Rattle.standard.proofs.Cells.{Cells};
-ghost use Rattle.zuc.specs.Reading.{stateOf};
+ghost use Rattle.standard.proofs.Held.{Ready};
+ghost use Rattle.zuc.specs.Reading.{heldOf};
 ghost use Rattle.mac_registers.specs.Stored.{packed, storedOf, tagOf, tagWords, taggingOf};
-ghost use Rattle.mac_registers.specs.Inner.{Held, Width, begun};
+ghost use Rattle.mac_registers.specs.Inner.{Holds, Width, begun};
 ghost use Rattle.mac_registers.specs.Tagging.{absorbed, begun-EIA3, begun-ZUC256, updated};
 ghost use Rattle.mac_tagging.specs.InnerSteps.{Turned};
 use mac_blocks::blocks;
@@ -19,8 +19,8 @@ use zuc::Zuc;
 
 // A state with a tag, and a key pair of fresh words: two times half a pair is moved in.
 fn begin(t0: &[u8; 256], t1: &[u8; 256], width: usize, tag: [u64; 2], g: Zuc) -> TagState
-    requires { ⌜ now t0 ≡ S₀-table ⌝ ∗ ⌜ now t1 ≡ S₁-table ⌝ ∗ ⌜ Cells (stateOf g .cells) ⌝ ∗ ⌜ Width width ⌝ ∗ ⌜ tag ≡ tagWords width (tagOf width tag) ⌝ }
-    ensures { λ r. ⌜ storedOf r ≡ packed width (begun (width * 8) (tagOf width tag) (stateOf g)) ⌝ }
+    requires { ⌜ now t0 ≡ S₀-table ⌝ ∗ ⌜ now t1 ≡ S₁-table ⌝ ∗ ⌜ Ready (heldOf g) ⌝ ∗ ⌜ Width width ⌝ ∗ ⌜ tag ≡ tagWords width (tagOf width tag) ⌝ }
+    ensures { λ r. ⌜ storedOf r ≡ packed width (begun (width * 8) (tagOf width tag) (heldOf g)) ⌝ }
 {
     let a = draw_words(t0, t1, width, g);
     let high = a.words;
@@ -41,15 +41,15 @@ fn begin(t0: &[u8; 256], t1: &[u8; 256], width: usize, tag: [u64; 2], g: Zuc) ->
 }
 
 pub fn begin_128(t0: &[u8; 256], t1: &[u8; 256], g: Zuc) -> TagState
-    requires { ⌜ now t0 ≡ S₀-table ⌝ ∗ ⌜ now t1 ≡ S₁-table ⌝ ∗ ⌜ Cells (stateOf g .cells) ⌝ }
-    ensures { λ r. ⌜ storedOf r ≡ packed 4 (begun-EIA3 (stateOf g)) ⌝ }
+    requires { ⌜ now t0 ≡ S₀-table ⌝ ∗ ⌜ now t1 ≡ S₁-table ⌝ ∗ ⌜ Ready (heldOf g) ⌝ }
+    ensures { λ r. ⌜ storedOf r ≡ packed 4 (begun-EIA3 (heldOf g)) ⌝ }
 {
     begin(t0, t1, 4, [0u64; 2], g)
 }
 
 pub fn begin_256(t0: &[u8; 256], t1: &[u8; 256], width: usize, g: Zuc) -> TagState
-    requires { ⌜ now t0 ≡ S₀-table ⌝ ∗ ⌜ now t1 ≡ S₁-table ⌝ ∗ ⌜ Cells (stateOf g .cells) ⌝ ∗ ⌜ Width width ⌝ }
-    ensures { λ r. ⌜ storedOf r ≡ packed width (begun-ZUC256 (width * 8) (stateOf g)) ⌝ }
+    requires { ⌜ now t0 ≡ S₀-table ⌝ ∗ ⌜ now t1 ≡ S₁-table ⌝ ∗ ⌜ Ready (heldOf g) ⌝ ∗ ⌜ Width width ⌝ }
+    ensures { λ r. ⌜ storedOf r ≡ packed width (begun-ZUC256 (width * 8) (heldOf g)) ⌝ }
 {
     let a = draw_words(t0, t1, width, g);
     let tag = a.words;
@@ -59,7 +59,7 @@ pub fn begin_256(t0: &[u8; 256], t1: &[u8; 256], width: usize, g: Zuc) -> TagSta
 
 // One message byte: it waits, or completes a block.
 fn absorb(t0: &[u8; 256], t1: &[u8; 256], s: TagState, b: u8) -> TagState
-    requires { ⌜ now t0 ≡ S₀-table ⌝ ∗ ⌜ now t1 ≡ S₁-table ⌝ ∗ ⌜ Held (storedOf s) ⌝ }
+    requires { ⌜ now t0 ≡ S₀-table ⌝ ∗ ⌜ now t1 ≡ S₁-table ⌝ ∗ ⌜ Holds (storedOf s) ⌝ }
     ensures { λ r. ⌜ storedOf r ≡ packed (s .width) (absorbed (s .width * 8) (taggingOf (storedOf s)) b) ⌝ }
 {
     let at = s.cnt;
@@ -93,7 +93,7 @@ fn absorb(t0: &[u8; 256], t1: &[u8; 256], s: TagState, b: u8) -> TagState
 
 // The next blocks where nothing waits, and else the next byte.
 fn turn(t0: &[u8; 256], t1: &[u8; 256], s: TagState, message: &[u8], i: usize) -> Moved
-    requires { ⌜ now t0 ≡ S₀-table ⌝ ∗ ⌜ now t1 ≡ S₁-table ⌝ ∗ ⌜ Held (storedOf s) ⌝ ∗ ⌜ i < length (now message) ⌝ }
+    requires { ⌜ now t0 ≡ S₀-table ⌝ ∗ ⌜ now t1 ≡ S₁-table ⌝ ∗ ⌜ Holds (storedOf s) ⌝ ∗ ⌜ i < length (now message) ⌝ }
     ensures { λ r. ⌜ Turned (storedOf s) (now (message .entry)) i (storedOf (r .s)) (r .at) ⌝ }
 {
     let cnt = s.cnt;
@@ -111,7 +111,7 @@ fn turn(t0: &[u8; 256], t1: &[u8; 256], s: TagState, message: &[u8], i: usize) -
 }
 
 pub fn update(t0: &[u8; 256], t1: &[u8; 256], start: TagState, message: &[u8]) -> TagState
-    requires { ⌜ now t0 ≡ S₀-table ⌝ ∗ ⌜ now t1 ≡ S₁-table ⌝ ∗ ⌜ Held (storedOf start) ⌝ }
+    requires { ⌜ now t0 ≡ S₀-table ⌝ ∗ ⌜ now t1 ≡ S₁-table ⌝ ∗ ⌜ Holds (storedOf start) ⌝ }
     ensures { λ r. ⌜ storedOf r ≡ packed (start .width) (updated (start .width * 8) (taggingOf (storedOf start)) (now (message .entry))) ⌝ }
 {
     let mut s = start;

@@ -13,13 +13,14 @@ use Rattle.standard.specs.Confidentiality.{IV-EEA3, OBS, halfIV-EEA3, maskClean
 use Rattle.standard.specs.Generator.{State, keystream, started, wordAt}
 use Rattle.standard.specs.Loading.{load₁₂₈}
 use Rattle.standard.specs.Refusals.{Test, accepted, bitsTest, stateTest, tested}
-use Rattle.standard.specs.States.{wellFormed}
-use Rattle.standard.proofs.Cells.{All, cells-wellFormed}
+use Rattle.standard.specs.States.{Held, fromZero, heldFormed}
+use Rattle.standard.proofs.Cells.{All}
 use Rattle.standard.proofs.Generator.{sound-started, stream-is}
+use Rattle.standard.proofs.Held.{ready-heldFormed}
 use Rattle.standard.proofs.Masking.{obs-clean, obs-crate}
 use Rattle.standard.proofs.Promise.{Says}
 use Rattle.standard.proofs.Tested.{AllPass, accepted-passed, passed}
-use Rattle.zuc.specs.Reading.{stateOf}
+use Rattle.zuc.specs.Reading.{heldOf}
 use Rattle.zuc_loading.proofs.Loaded.{Bytes, byte-lt, cells-128, each-byte}
 use Rattle.keystream.specs.Starts.{StartOutcome, start-EEA3}
 use Rattle.keystream.proofs.Words.{at-rest-eea3}
@@ -28,22 +29,22 @@ use Rattle.mask.proofs.mask_clean.Reads as mask-clean
 use Rattle.mask.proofs.mask_crate.Reads as mask-crate
 
 -- the promises of both modes are the equations that the theorems ask for
-pub called-mask-crate : Says mask-crate.Post (λ κs a r s. told r (now (s .1 .0)) ≡ crateOutcome (stateOf (a .0)) (a .1 .1 .0) (now (a .1 .0)))
+pub called-mask-crate : Says mask-crate.Post (λ κs a r s. told r (now (s .1 .0)) ≡ crateOutcome (heldOf (a .0)) (a .1 .1 .0) (now (a .1 .0)))
 called-mask-crate κs a r s p = p
 
-pub called-mask-clean : Says mask-clean.Post (λ κs a r s. told r (now (s .1 .0)) ≡ cleanOutcome (stateOf (a .0)) (a .1 .1 .0) (now (a .1 .0)))
+pub called-mask-clean : Says mask-clean.Post (λ κs a r s. told r (now (s .1 .0)) ≡ cleanOutcome (heldOf (a .0)) (a .1 .1 .0) (now (a .1 .0)))
 called-mask-clean κs a r s p = p
 
 -- an accepted mask had a bit length that fits, and its buffer is the mask
-module _ (σ : State) (L : ℕ) (buffer masked : List ℕ) (o : Outcome) (told : o ≡ maskTested σ L buffer (drawn (wordsToMask (length buffer)) σ masked))
+module _ (h : Held) (L : ℕ) (buffer masked : List ℕ) (o : Outcome) (told : o ≡ maskTested h L buffer (drawn (wordsToMask (length buffer)) h masked))
     (ok : o .number ≡ accepted) where
   tests : List Test
-  tests = stateTest (wellFormed (σ .cells)) ∷ bitsTest L buffer ∷ []
+  tests = stateTest (heldFormed h) ∷ bitsTest L buffer ∷ []
 
   all-passed : AllPass tests
   unfolding maskTested tests
   all-passed =
-      accepted-passed (λ (x : Outcome). x .number) (refused σ buffer) (λ n. refl) (drawn (wordsToMask (length buffer)) σ masked) tests (lit< tt, (lit< tt, tt))
+      accepted-passed (λ (x : Outcome). x .number) (refused h buffer) (λ n. refl) (drawn (wordsToMask (length buffer)) h masked) tests (lit< tt, (lit< tt, tt))
       (ap (λ (x : Outcome). x .number) (sym told) ∙ ok)
 
   fits : L ≤ length buffer * 8
@@ -52,7 +53,7 @@ module _ (σ : State) (L : ℕ) (buffer masked : List ℕ) (o : Outcome) (told :
 
   buffer-is : o .buffer ≡ masked
   unfolding maskTested tests
-  buffer-is = ap (λ (x : Outcome). x .buffer) (told ∙ passed tests (refused σ buffer) (drawn (wordsToMask (length buffer)) σ masked) all-passed)
+  buffer-is = ap (λ (x : Outcome). x .buffer) (told ∙ passed tests (refused h buffer) (drawn (wordsToMask (length buffer)) h masked) all-passed)
 
 module _ (count bearer direction : ℕ) (key : List ℕ) where
   abbrev loaded : State
@@ -60,23 +61,23 @@ module _ (count bearer direction : ℕ) (key : List ℕ) where
 
   -- THE LINE: OBS[i] = IBS[i] ⊕ z[i]
   module _ (start : StartOutcome) (begun : start ≡ start-EEA3 count bearer direction key) (live : start .number ≡ accepted) (L : ℕ) (buffer : List ℕ) (o : Outcome) where
-    words-are : wordAt (start .state) ≡ keystream loaded
-    words-are = ap wordAt (at-rest-eea3 start live count bearer direction key begun) ∙ sym (stream-is loaded)
+    words-are : wordAt (start .state .meaning) ≡ keystream loaded
+    words-are = ap (λ (h : Held). wordAt (h .meaning)) (at-rest-eea3 start live count bearer direction key begun) ∙ sym (stream-is loaded)
 
     pub eea3-crate : o ≡ crateOutcome (start .state) L buffer → o .number ≡ accepted → (i : ℕ) → i < L → M (o .buffer) i ≡ OBS (M buffer) (z (keystream loaded)) i
     eea3-crate e ok i h =
-        ap (λ (b : List ℕ). M b i) (buffer-is (start .state) L buffer (maskCrate (wordAt (start .state)) L buffer) o e ok)
-        ∙ obs-crate (wordAt (start .state)) L buffer i (fits (start .state) L buffer (maskCrate (wordAt (start .state)) L buffer) o e ok) h
+        ap (λ (b : List ℕ). M b i) (buffer-is (start .state) L buffer (maskCrate (wordAt (start .state .meaning)) L buffer) o e ok)
+        ∙ obs-crate (wordAt (start .state .meaning)) L buffer i (fits (start .state) L buffer (maskCrate (wordAt (start .state .meaning)) L buffer) o e ok) h
         ∙ ap (λ (w : ℕ → ℕ). OBS (M buffer) (z w) i) words-are
 
     pub eea3-clean : o ≡ cleanOutcome (start .state) L buffer → o .number ≡ accepted → (i : ℕ) → i < L → M (o .buffer) i ≡ OBS (M buffer) (z (keystream loaded)) i
     eea3-clean e ok i h =
-        ap (λ (b : List ℕ). M b i) (buffer-is (start .state) L buffer (maskClean (wordAt (start .state)) L buffer) o e ok)
-        ∙ obs-clean (wordAt (start .state)) L buffer i (fits (start .state) L buffer (maskClean (wordAt (start .state)) L buffer) o e ok) h
+        ap (λ (b : List ℕ). M b i) (buffer-is (start .state) L buffer (maskClean (wordAt (start .state .meaning)) L buffer) o e ok)
+        ∙ obs-clean (wordAt (start .state .meaning)) L buffer i (fits (start .state) L buffer (maskClean (wordAt (start .state .meaning)) L buffer) o e ok) h
         ∙ ap (λ (w : ℕ → ℕ). OBS (M buffer) (z w) i) words-are
 
   -- a key of 16 bytes starts, and then every mask whose bit length fits is accepted, in either mode
-  pub eea3-starts : length key ≡ 16 → start-EEA3 count bearer direction key ≡ record { number = accepted; state = started loaded }
+  pub eea3-starts : length key ≡ 16 → start-EEA3 count bearer direction key ≡ record { number = accepted; state = fromZero (started loaded) }
   unfolding start-EEA3 tested
   eea3-starts e = rw (eq-eqb (length key) 16 e) refl
 
@@ -89,8 +90,8 @@ module _ (count bearer direction : ℕ) (key : List ℕ) where
   unfolding IV-EEA3
   iv-bytes = each-byte (IV-EEA3 count bearer direction) (half-before (halfIV-EEA3 count (bearer % 2 ^ 5) (direction % 2)) (half-before [] tt))
 
-  pub eea3-masks : Bytes key → (L : ℕ) (buffer : List ℕ) (outcome : Outcome) → L ≤ length buffer * 8 → maskTested (started loaded) L buffer outcome ≡ outcome
+  pub eea3-masks : Bytes key → (L : ℕ) (buffer : List ℕ) (outcome : Outcome) → L ≤ length buffer * 8 → maskTested (fromZero (started loaded)) L buffer outcome ≡ outcome
   unfolding maskTested
   eea3-masks hk L buffer outcome h =
-      passed (stateTest (wellFormed (started loaded .cells)) ∷ bitsTest L buffer ∷ []) (refused (started loaded) buffer) outcome
-      (cells-wellFormed (sound-started loaded (cells-128 key (IV-EEA3 count bearer direction) hk iv-bytes)), (le-leb L (length buffer * 8) h, tt))
+      passed (stateTest (heldFormed (fromZero (started loaded))) ∷ bitsTest L buffer ∷ []) (refused (fromZero (started loaded)) buffer) outcome
+      (ready-heldFormed (record { cells = sound-started loaded (cells-128 key (IV-EEA3 count bearer direction) hk iv-bytes); start = lit< tt }), (le-leb L (length buffer * 8) h, tt))

@@ -11,7 +11,8 @@ use Rattle.standard.specs.Refusals.{accepted, badState}
 use Rattle.mask.specs.declared.MaskAnswer.{MaskAnswer}
 use Rattle.mask.specs.declared.MaskAnswer.the-variants.{Done, BadState, BadBits}
 use Rattle.mask.specs.declared.Masked.{Masked}
-use Rattle.mask.specs.Outcome.{told, numberOf, countOf}
+use Rattle.zuc.proofs.Turning.{read-once}
+use Rattle.mask.specs.Outcome.{Outcome, told, numberOf, countOf}
 use Rattle.mask.proofs.mask_crate.Reads as mask-crate
 use Rattle.mask.proofs.mask_clean.Reads as mask-clean
 
@@ -31,7 +32,7 @@ told-all r r′ b b′ e =
     λ i. (
       record {
         answer = (sym (answer-back (r .answer)) ∙ ap (λ o. answerOf (o .number) (o .count)) e ∙ answer-back (r′ .answer)) i;
-        state = record { s = e i .state .cells; r1 = e i .state .R₁; r2 = e i .state .R₂ };
+        state = read-once (r .state) (r′ .state) (ap (λ (o : Outcome). o .state) e) i;
       },
       e i .buffer,
     )

@@ -4,7 +4,8 @@ use Prim.Native.Nat.{ℕ}
 use lib.Dec.{ltb}
 use lib.ListN.{length}
 use Rattle.standard.specs.Confidentiality.{keepHigh, keptByClean, maskClean, wordsToMask}
-use Rattle.standard.specs.Generator.{State, wordAt}
+use Rattle.standard.specs.Generator.{wordAt}
+use Rattle.standard.specs.States.{Held}
 use Rattle.standard.specs.Notation.{if_then_else_}
 use Rattle.mask.specs.Outcome.{Outcome, drawn, maskTested}
 
@@ -17,5 +18,5 @@ abbrev pub cleared : ℕ → ℕ → ℕ → ℕ
 cleared L j byte = keepHigh (keptByClean L j) byte
 
 -- kept are the bits before `end`
-abbrev pub outcomeTo : ℕ → State → ℕ → List ℕ → Outcome
-outcomeTo end σ L buffer = maskTested σ L buffer (drawn (wordsToMask (length buffer)) σ (maskClean (wordAt σ) end buffer))
+abbrev pub outcomeTo : ℕ → Held → ℕ → List ℕ → Outcome
+outcomeTo end h L buffer = maskTested h L buffer (drawn (wordsToMask (length buffer)) h (maskClean (wordAt (h .meaning)) end buffer))

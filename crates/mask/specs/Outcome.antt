@@ -3,10 +3,10 @@ use mathlib.Core.List.{List, [], _∷_}
 use Prim.Native.Nat.{ℕ}
 use lib.ListN.{length}
 use Rattle.standard.specs.Confidentiality.{maskCrate, maskClean, wordsToMask}
-use Rattle.standard.specs.Generator.{State, after, wordAt}
+use Rattle.standard.specs.Generator.{wordAt}
 use Rattle.standard.specs.Refusals.{accepted, badBits, badState, bitsTest, stateTest, tested}
-use Rattle.standard.specs.States.{wellFormed}
-use Rattle.zuc.specs.Reading.{stateOf}
+use Rattle.standard.specs.States.{Held, heldFormed, moved}
+use Rattle.zuc.specs.Reading.{heldOf}
 use Rattle.mask.specs.declared.MaskAnswer.{MaskAnswer}
 use Rattle.mask.specs.declared.MaskAnswer.the-variants.{Done, BadState, BadBits}
 use Rattle.mask.specs.declared.Masked.{Masked}
@@ -26,26 +26,26 @@ countOf BadBits = 0
 pub record Outcome : Type 0 where
   pub number : ℕ
   pub count : ℕ
-  pub state : State
+  pub state : Held
   pub buffer : List ℕ
 
 abbrev pub told : Masked → List ℕ → Outcome
-told r buffer = record { number = numberOf (r .answer); count = countOf (r .answer); state = stateOf (r .state); buffer = buffer }
+told r buffer = record { number = numberOf (r .answer); count = countOf (r .answer); state = heldOf (r .state); buffer = buffer }
 
 -- a refusal hands back state and buffer as they came, and a zero count
-abbrev pub refused : State → List ℕ → ℕ → Outcome
-refused σ buffer number = record { number = number; count = 0; state = σ; buffer = buffer }
+abbrev pub refused : Held → List ℕ → ℕ → Outcome
+refused h buffer number = record { number = number; count = 0; state = h; buffer = buffer }
 
 -- so many words drawn, and this buffer
-abbrev pub drawn : ℕ → State → List ℕ → Outcome
-drawn count σ buffer = record { number = accepted; count = count; state = after count σ; buffer = buffer }
+abbrev pub drawn : ℕ → Held → List ℕ → Outcome
+drawn count h buffer = record { number = accepted; count = count; state = moved count h; buffer = buffer }
 
 -- both modes' tests, whatever the mask
-unfoldable pub maskTested : State → ℕ → List ℕ → Outcome → Outcome
-maskTested σ L buffer outcome = tested (stateTest (wellFormed (σ .cells)) ∷ bitsTest L buffer ∷ []) (refused σ buffer) outcome
+unfoldable pub maskTested : Held → ℕ → List ℕ → Outcome → Outcome
+maskTested h L buffer outcome = tested (stateTest (heldFormed h) ∷ bitsTest L buffer ∷ []) (refused h buffer) outcome
 
-abbrev pub crateOutcome : State → ℕ → List ℕ → Outcome
-crateOutcome σ L buffer = maskTested σ L buffer (drawn (wordsToMask (length buffer)) σ (maskCrate (wordAt σ) L buffer))
+abbrev pub crateOutcome : Held → ℕ → List ℕ → Outcome
+crateOutcome h L buffer = maskTested h L buffer (drawn (wordsToMask (length buffer)) h (maskCrate (wordAt (h .meaning)) L buffer))
 
-abbrev pub cleanOutcome : State → ℕ → List ℕ → Outcome
-cleanOutcome σ L buffer = maskTested σ L buffer (drawn (wordsToMask (length buffer)) σ (maskClean (wordAt σ) L buffer))
+abbrev pub cleanOutcome : Held → ℕ → List ℕ → Outcome
+cleanOutcome h L buffer = maskTested h L buffer (drawn (wordsToMask (length buffer)) h (maskClean (wordAt (h .meaning)) L buffer))

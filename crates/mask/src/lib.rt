@@ -6,7 +6,7 @@ ghost use Rattle.mask.specs.Inner.{zeroed, cleared, outcomeTo};
 ghost use Rattle.mask.specs.Outcome.{told, crateOutcome, cleanOutcome};
 ghost use Rattle.standard.specs.Confidentiality.{keepHigh};
 ghost use Rattle.standard.specs.Notation.{eachFrom};
-ghost use Rattle.zuc.specs.Reading.{stateOf};
+ghost use Rattle.zuc.specs.Reading.{heldOf};
 use mask_bulk::mask_all;
 use zuc::Zuc;
 use zuc::boxes::s0;
@@ -61,7 +61,7 @@ fn keep_bits(buf: &mut [u8], q: usize, k: usize)
 // Both modes: they differ in how many high bits of byte floor(bits/8) are kept.
 fn mask(start: Zuc, buf: &mut [u8], bits: usize, kept: usize) -> Masked
     requires { ⌜ kept ≤ 8 ⌝ }
-    ensures { λ r. ⌜ told r (now (buf .exit)) ≡ outcomeTo (bits / 8 * 8 + kept) (stateOf start) bits (now (buf .entry)) ⌝ }
+    ensures { λ r. ⌜ told r (now (buf .exit)) ≡ outcomeTo (bits / 8 * 8 + kept) (heldOf start) bits (now (buf .entry)) ⌝ }
 {
     if !zuc::is_well_formed(start) {
         return Masked {
@@ -88,7 +88,7 @@ fn mask(start: Zuc, buf: &mut [u8], bits: usize, kept: usize) -> Masked
 
 // As the crate does: a byte whose first bit is the first past the length stays masked.
 pub fn mask_crate(state: Zuc, buf: &mut [u8], bits: usize) -> Masked
-    ensures { λ r. ⌜ told r (now (buf .exit)) ≡ crateOutcome (stateOf state) bits (now (buf .entry)) ⌝ }
+    ensures { λ r. ⌜ told r (now (buf .exit)) ≡ crateOutcome (heldOf state) bits (now (buf .entry)) ⌝ }
 {
     let part = bits % 8;
     if part == 0 {
@@ -99,7 +99,7 @@ pub fn mask_crate(state: Zuc, buf: &mut [u8], bits: usize) -> Masked
 
 // Every bit at or past the length is zeroed.
 pub fn mask_clean(state: Zuc, buf: &mut [u8], bits: usize) -> Masked
-    ensures { λ r. ⌜ told r (now (buf .exit)) ≡ cleanOutcome (stateOf state) bits (now (buf .entry)) ⌝ }
+    ensures { λ r. ⌜ told r (now (buf .exit)) ≡ cleanOutcome (heldOf state) bits (now (buf .entry)) ⌝ }
 {
     mask(state, buf, bits, bits % 8)
 }

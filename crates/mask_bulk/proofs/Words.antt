@@ -3,16 +3,16 @@ use mathlib.Core.List.{List, [], _∷_, _++_}
 use mathlib.Core.Path.{_≡_, sym, ap, ap₂, _∙_}
 use Prim.Native.Nat.{ℕ, _+_, _-_, _*_, _/_, _%_, _^_, _<_, _≤_}
 use native.Mathlib.Nat.{mod-eq-of-lt}
-use native.Mathlib.Numerals.{add-one}
 use native.Mathlib.Omega.{arith}
 use lib.Bits.{xor-shr, xor-mod}
 use lib.ListN.{length, getD, take, drop, set, length-take}
 use Rattle.standard.specs.Confidentiality.{masked}
 use Rattle.standard.specs.Bits.{byteOf}
-use Rattle.standard.specs.Generator.{State, after, next, wordAt}
+use Rattle.standard.specs.Generator.{State, wordAt}
+use Rattle.standard.specs.States.{Held, moved}
 use Rattle.standard.specs.Notation.{_⊕_, _‖₈_, eachFrom}
 use Rattle.standard.proofs.Each.{each-ext, doneFrom, from-lent}
-use Rattle.standard.proofs.Generator.{after-more}
+use Rattle.standard.proofs.Held.{moved-moved}
 
 byte-xor : (a b j : ℕ) → byteOf (a ⊕ b) j ≡ byteOf a j ⊕ byteOf b j
 unfolding byteOf
@@ -41,9 +41,9 @@ four-stored f (w ∷ x ∷ []) a b c d h p q r s = absurd (omega arith)
 four-stored f (w ∷ x ∷ y ∷ []) a b c d h p q r s = absurd (omega arith)
 four-stored f (w ∷ x ∷ y ∷ z ∷ v ∷ l) a b c d h p q r s = absurd (omega arith)
 
--- a draw after k
-pub turn-state : (σ τ : State) (k n : ℕ) → τ ≡ after k σ → k + 1 ≡ n → next τ ≡ after n σ
-turn-state σ τ k n e m = ap next e ∙ sym (after-more k σ) ∙ ap (λ (j : ℕ). after j σ) (sym (add-one k) ∙ m)
+-- a draw after i
+pub turn-state : (h k : Held) (i n : ℕ) → k ≡ moved i h → i + 1 ≡ n → moved 1 k ≡ moved n h
+turn-state h k i n e m = ap (moved 1) e ∙ moved-moved i 1 h ∙ ap (λ (j : ℕ). moved j h) m
 
 -- a part lent from byte i, where word k begins, to an end, and masked with words that are those from k on
 module _ (σ : State) (k i end : ℕ) (start : i ≡ 4 * k) where

@@ -7,6 +7,7 @@ pub mod Table
 pub mod Permutation
 pub mod Cells
 pub mod Generator
+pub mod Held
 pub mod Sum
 pub mod Extra
 pub mod Linear

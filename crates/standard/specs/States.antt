@@ -1,11 +1,11 @@
 -- What a call is lent and hands back as a state, and when it is malformed (document 01, "Refusal numbers"; refused by 4).
 use mathlib.Core.Bool.{Bool, true, _&&_}
 use mathlib.Core.List.{List, [], _∷_}
-use Prim.Native.Nat.{ℕ, _-_, _/_, _^_}
+use Prim.Native.Nat.{ℕ, zero, suc, _+_, _-_, _/_, _%_, _^_}
 use lib.Dec.{eqb, leb, ltb}
 use lib.ListN.{drop, replicate}
 use Rattle.standard.specs.Notation.{_⟨_⟩, if_then_else_}
-use Rattle.standard.specs.Generator.{State}
+use Rattle.standard.specs.Generator.{State, next}
 use Rattle.standard.specs.Integrity.{isWidth}
 
 -- a generator's state is malformed when a cell lies outside 1..2147483647
@@ -13,14 +13,33 @@ unfoldable pub wellFormed : List ℕ → Bool
 wellFormed [] = true
 wellFormed (s ∷ rest) = leb 1 s && leb s (2 ^ 31 - 1) && wellFormed rest
 
+-- Request 2026-08: the cells stay put, and a state carries the index at which they start. What a call is lent and hands back is the
+-- state that is meant, its cells read from that index, and beside it the index
+pub record Held : Type 0 where
+  pub meaning : State
+  pub start : ℕ
+
+-- it is malformed when its cells are, or the start index is above 15
+unfoldable pub heldFormed : Held → Bool
+heldFormed h = wellFormed (h .meaning .cells) && ltb (h .start) 16
+
+-- a start gives index 0
+abbrev pub fromZero : State → Held
+fromZero σ = record { meaning = σ; start = 0 }
+
+-- each draw raises it by one, from 15 back to 0: what is held after n draws
+unfoldable pub moved : ℕ → Held → Held
+moved zero h = h
+moved (suc n) h = record { meaning = next (moved n h .meaning); start = (moved n h .start + 1) % 16 }
+
 -- what a refused start hands back
-unfoldable pub zeros : State
-zeros = record { cells = replicate 16 0; R₁ = 0; R₂ = 0 }
+unfoldable pub zeros : Held
+zeros = fromZero (record { cells = replicate 16 0; R₁ = 0; R₂ = 0 })
 
 -- A tag's state: the generator, the key pair in four words of 64 bits, the tag in two, sixteen waiting bytes, their count, the width
 -- in bytes. Document 01, "What must change shape": key pairs and tags as two or four 64-bit words
 pub record Stored : Type 0 where
-  pub generator : State
+  pub generator : Held
   pub key : List ℕ
   pub tag : List ℕ
   pub rem : List ℕ
@@ -39,11 +58,11 @@ unfoldable pub allZero : List ℕ → Bool
 allZero [] = true
 allZero (x ∷ rest) = eqb x 0 && allZero rest
 
--- a tag's state is malformed when a cell lies outside 1..2147483647, the width is not 4, 8 or 16, a part unused at its width is not zero,
+-- a tag's state is malformed when its generator's is, the width is not 4, 8 or 16, a part unused at its width is not zero,
 -- the waiting byte count is not below the width, or a waiting byte at or past that count is not zero
 unfoldable pub formed : Stored → Bool
 formed s =
-    wellFormed (s .generator .cells) && isWidth (s .width) && allZero (unused (s .width) (s .key) (s .tag)) && ltb (s .cnt) (s .width)
+    heldFormed (s .generator) && isWidth (s .width) && allZero (unused (s .width) (s .key) (s .tag)) && ltb (s .cnt) (s .width)
     && allZero (drop (s .cnt) (s .rem))
 
 -- for ZUC-128 and EIA3 also when the width is not 4

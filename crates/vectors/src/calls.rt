@@ -33,11 +33,12 @@ use vectors_parts::text::kind_of;
 use vectors_parts::text::line_at;
 use vectors_parts::text::numbers_in;
 use vectors_parts::told;
+use vectors_parts::turned;
 
 // The arrays that the lines work on.
-pub type Generator = [u32; 18];
+pub type Generator = [u32; 19];
 
-pub type TagArray = [u64; 19];
+pub type TagArray = [u64; 20];
 
 // Kinds 0 to 5, starts of both arrays: the number.
 fn started(
@@ -91,12 +92,15 @@ fn drew(kind: usize, n: [u64; 4], g: &mut Generator, words: &mut [u32], out: &mu
     told::drawn(number, &words[from..many], out)
 }
 
-// Kind 8, a draw of the generator as a struct that is lent: the number, and the word.
+// Kind 8, a draw of the generator as a struct that is lent: the number, and the word. An index too great for its word would leave the
+// array as it was, and a row would show it.
 fn draw_in_place(g: &mut Generator, out: &mut [u8]) -> usize {
     let drew = drawn(state_in(*g));
     let next = drew.state;
     let answer = drew.answer;
-    *g = array_of(next);
+    if next.start < 0x1_0000_0000 {
+        *g = array_of(next);
+    }
     let word = [draw_word(answer)];
     told::drawn(draw_number(answer), &word, out)
 }
@@ -197,13 +201,13 @@ fn once(kind: usize, n: [u64; 4], a: &[u8], b: &[u8], c: &[u8], out: &mut [u8]) 
 // Kinds 22 and 23, a word of an array set.
 fn set(kind: usize, at: usize, word: u64, g: &mut Generator, t: &mut TagArray) -> bool {
     if kind == 22 {
-        if at < 18 {
+        if at < 19 {
             g[at] = (word % 0x1_0000_0000) as u32;
             return true;
         }
     }
     if kind == 23 {
-        if at < 19 {
+        if at < 20 {
             t[at] = word;
             return true;
         }
@@ -234,6 +238,15 @@ fn link(l: Link, out: &mut [u8], at: usize) -> usize {
     told::longs(&words, out, at)
 }
 
+// Kinds 25 and 26, an array turned by a place.
+fn turn(kind: usize, g: &mut Generator, t: &mut TagArray) {
+    if kind == 25 {
+        *g = turned::generator(*g);
+    } else {
+        *t = turned::tag(*t);
+    }
+}
+
 // A line of a kind, with its numbers and bytes: the length of what was told, or 0 where it is of no kind. Kinds 20 and 21 are the arrays
 // as they stand.
 fn made(
@@ -262,6 +275,10 @@ fn made(
         20 => told::words(g, out, 0),
         21 => told::longs(t, out, 0),
         24 => guarded(n, out),
+        25..=26 => {
+            turn(kind, g, t);
+            told::done(true, out)
+        }
         _ => told::done(set(kind, n[0] as usize, n[1], g, t), out),
     }
 }
@@ -322,7 +339,9 @@ generator
 tag
 generator word N is W
 tag word N is W
-accept_in highest W accepted W at N count W",
+accept_in highest W accepted W at N count W
+generator turned
+tag turned",
         g,
         t,
         out,

@@ -1,12 +1,12 @@
 // A draw of a generator that is lent, from one by value and back: whoever calls this makes no reference to a struct.
 ghost use mathlib.Core.Path.{_≡_};
 ghost use Rattle.keystream.specs.Draws.{drawOutcome, drawTold};
-ghost use Rattle.zuc.specs.Reading.{stateOf};
+ghost use Rattle.zuc.specs.Reading.{heldOf};
 use keystream::Drew;
 use zuc::Zuc;
 
 pub fn drawn(z: Zuc) -> Drew
-    ensures { λ r. ⌜ drawTold r ≡ drawOutcome (stateOf z) ⌝ }
+    ensures { λ r. ⌜ drawTold r ≡ drawOutcome (heldOf z) ⌝ }
 {
     let mut y = z;
     let a = keystream::generate_in_place(&mut y);

@@ -172,8 +172,8 @@ fn read(script: &[u8], at: usize, p: Progress, g: &mut Generator, t: &mut TagArr
 }
 
 fn run(script: &[u8]) -> Tally {
-    let mut g = [0u32; 18];
-    let mut t = [0u64; 19];
+    let mut g = [0u32; 19];
+    let mut t = [0u64; 20];
     let nothing = Outcome {
         text: [0u8; 4096],
         len: 0,

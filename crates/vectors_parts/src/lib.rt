@@ -1,10 +1,12 @@
-// Parts of slices, digits and bytes of words; the script's lines as text, what calls tell as text, and a table of rows: for the programs.
+// Parts of slices, digits and bytes of words; the script's lines as text, what calls tell as text, arrays turned, and a table of rows: for
+// the programs.
 ghost use lib.ListN.{length};
 ghost use Prim.Native.Nat.{_≤_};
 
 pub mod table;
 pub mod text;
 pub mod told;
+pub mod turned;
 
 // The value of a hexadecimal digit, or 16 where it is none.
 pub fn digit(c: u8) -> u8

@@ -1,3 +1,5 @@
+pub mod Drawing
 pub mod Linear
 pub mod Modulo
 pub mod Taps
+pub mod Turning

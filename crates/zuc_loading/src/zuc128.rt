@@ -4,8 +4,8 @@ ghost use mathlib.Core.Path.{_≡_};
 ghost use Prim.Native.Nat.{_<_, _^_};
 ghost use Rattle.standard.specs.Loading.{load₁₂₈};
 ghost use Rattle.standard.specs.Notation.{_‖₈_, _‖₁₅_};
-ghost use Rattle.zuc.specs.Reading.{stateOf};
-use zuc::Zuc;
+ghost use Rattle.zuc.specs.Reading.{loadedOf};
+use zuc::Loaded;
 
 // The constants d, of 15 bits each.
 const D: [u32; 16] = [
@@ -36,14 +36,14 @@ fn cell(k: u8, d: u32, iv: u8) -> u32
 }
 
 // The loaded cells.
-pub fn load(key: &[u8], iv: &[u8]) -> Zuc
+pub fn load(key: &[u8], iv: &[u8]) -> Loaded
     requires { ⌜ length (now key) ≡ 16 ⌝ ∗ ⌜ length (now iv) ≡ 16 ⌝ }
-    ensures { λ r. ⌜ stateOf r ≡ load₁₂₈ (now (key .entry)) (now (iv .entry)) ⌝ }
+    ensures { λ r. ⌜ loadedOf r ≡ load₁₂₈ (now (key .entry)) (now (iv .entry)) ⌝ }
 {
     let d = D;
     let mut s = [0u32; 16];
     for i in 0usize..16 {
         s[i] = cell(key[i], d[i], iv[i]);
     }
-    Zuc { s, r1: 0, r2: 0 }
+    Loaded { s, r1: 0, r2: 0 }
 }

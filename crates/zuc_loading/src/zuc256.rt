@@ -5,8 +5,8 @@ ghost use mathlib.Core.Path.{_≡_};
 ghost use Rattle.zuc_loading.specs.InnerRows.{Inside, besides, joined, sextets, sextetsOf};
 ghost use Rattle.standard.specs.Loading.{load₂₅₆};
 ghost use Rattle.standard.specs.Notation.{_‖₇_, _‖₈_};
-ghost use Rattle.zuc.specs.Reading.{stateOf};
-use zuc::Zuc;
+ghost use Rattle.zuc.specs.Reading.{loadedOf};
+use zuc::Loaded;
 
 // Where the key starts, and the IV behind it, in one array.
 const K: usize = 0;
@@ -107,12 +107,12 @@ fn join(places: [Places; 16], d: [u8; 16], b: [u8; 16], x: [u8; 55]) -> [u32; 16
 }
 
 // The loaded cells of a key and the IV behind it.
-fn load_from(d: [u8; 16], x: [u8; 55]) -> Zuc
-    ensures { λ r. ⌜ stateOf r ≡ load₂₅₆ d (take 32 x) (drop 32 x) ⌝ }
+fn load_from(d: [u8; 16], x: [u8; 55]) -> Loaded
+    ensures { λ r. ⌜ loadedOf r ≡ load₂₅₆ d (take 32 x) (drop 32 x) ⌝ }
 {
     let b = beside(x);
     let s = join(PLACES, d, b, x);
-    Zuc { s, r1: 0, r2: 0 }
+    Loaded { s, r1: 0, r2: 0 }
 }
 
 // A slice copied into as many places of an array, so that the load reads places that are known to be there.
@@ -126,9 +126,9 @@ fn copy(to: &mut [u8], from: &[u8])
 }
 
 // The loaded cells, with a row of constants.
-pub fn load(d: [u8; 16], key: &[u8], iv: &[u8]) -> Zuc
+pub fn load(d: [u8; 16], key: &[u8], iv: &[u8]) -> Loaded
     requires { ⌜ length (now key) ≡ 32 ⌝ ∗ ⌜ length (now iv) ≡ 23 ⌝ }
-    ensures { λ r. ⌜ stateOf r ≡ load₂₅₆ d (now (key .entry)) (now (iv .entry)) ⌝ }
+    ensures { λ r. ⌜ loadedOf r ≡ load₂₅₆ d (now (key .entry)) (now (iv .entry)) ⌝ }
 {
     let mut x = [0u8; 55];
     copy(&mut x[..32], key);

@@ -1,11 +1,13 @@
--- `array_of`: its literal is the cells, written out, and the registers.
+-- `array_of`: its literal is the places, the registers and the index, written out.
 use lib.ListN.{length}
 use mathlib.Core.List.{List, [], _∷_, _++_}
-use mathlib.Core.Path.{_≡_, _∙_, ap}
-use Rattle.capi_arrays.proofs.Packing.{all-listed, array-state}
-use Rattle.capi_arrays.specs.Arrays.{arrayOf, stateIn}
+use mathlib.Core.Path.{_≡_, _∙_, ap, sym}
+use native.Mathlib.Omega.{arith}
+use Rattle.capi_arrays.proofs.Packing.{all-listed, array-held}
+use Rattle.capi_arrays.specs.Arrays.{arrayOf, heldIn, placed}
 use Rattle.standard.specs.Notation.{listed}
-use Rattle.zuc.specs.Reading.{stateOf}
+use Rattle.zuc.proofs.Turning.{length-from, places-back}
+use Rattle.zuc.specs.Reading.{heldOf}
 use borrow.Author.Needs.{needs}
 use Rattle.capi_arrays.proofs.array_of.Statement.{statement}
 use Rattle.capi_arrays.proofs.array_of.Tie as tie
@@ -14,14 +16,15 @@ full : (s : tie.Start) → length (s .args .z .s) ≡ 16
 full s = search needs
 
 returns : tie.Need-returns
-unfolding arrayOf listed
+unfolding arrayOf placed listed
 returns c =
-    let start = c .before in
+    let start = c .before .before in
     let z = start .args .z in
-    let is = ap (λ (s : List _). s ++ (z .r1 ∷ z .r2 ∷ [])) (all-listed (z .s) 16 (full start)) in
-    (is, ap stateIn is ∙ array-state (stateOf z) (full start))
+    let places = all-listed (z .s) 16 (full start) ∙ sym (places-back (z .start) (z .s)) in
+    let is = ap (λ (s : List _). (s ++ (z .r1 ∷ z .r2 ∷ [])) ++ (z .start ∷ [])) places in
+    (is, ap heldIn is ∙ array-held (heldOf z) (length-from (z .start) (z .s) ∙ full start))
 
 pub array-of-spec : {M : Type 1} → statement M
 array-of-spec =
     tie.close
-    (tie.spec (λ c. search needs) (λ c. search needs) (λ c. search needs) (λ c. search needs) (λ c. search needs) (λ c. search needs) (λ c. search needs) (λ c. search needs) (λ c. search needs) (λ c. search needs) (λ c. search needs) (λ c. search needs) (λ c. search needs) (λ c. search needs) (λ c. search needs) (λ c. search needs) returns)
+    (tie.spec (λ c. search needs) (λ c. search needs) (λ c. search needs) (λ c. search needs) (λ c. search needs) (λ c. search needs) (λ c. search needs) (λ c. search needs) (λ c. search needs) (λ c. search needs) (λ c. search needs) (λ c. search needs) (λ c. search needs) (λ c. search needs) (λ c. search needs) (λ c. search needs) (λ c. omega (arith, c .before .before .pre)) returns)

@@ -1,26 +1,34 @@
--- `state_in`: its literal is the first sixteen words, written out.
+-- `state_in`: the places, and the words behind them.
 use lib.ListN.{length}
 use mathlib.Core.Path.{_≡_, _∙_, ap}
-use native.Mathlib.Omega.{arith}
-use Rattle.capi_arrays.proofs.Packing.{part-listed, state-array}
-use Rattle.capi_arrays.specs.Arrays.{arrayOf, stateIn}
-use Rattle.standard.specs.Generator.{State}
-use Rattle.standard.specs.Notation.{_⟨_⟩, listed}
+use mir.Syntax.{w32}
+use mir.Val.{Fits}
+use Prim.Native.Nat.{ℕ}
+use Rattle.capi_arrays.proofs.Packing.{held-array}
+use Rattle.capi_arrays.specs.Arrays.{arrayOf, heldFrom, heldIn}
+use Rattle.standard.specs.Notation.{_⟨_⟩}
+use Rattle.standard.specs.States.{Held}
+use Rattle.zuc.specs.Reading.{cellsFrom}
 use borrow.Author.Needs.{needs}
 use Rattle.capi_arrays.proofs.state_in.Statement.{statement}
 use Rattle.capi_arrays.proofs.state_in.Tie as tie
 
-full : (s : tie.Start) → length (s .args .t1) ≡ 18
+full : (s : tie.Start) → length (s .args .t1) ≡ 19
 full s = search needs
 
+fits : (s : tie.Start) (k : ℕ) → Fits w32 (s .args .t1 ⟨ k ⟩)
+fits s k = search needs
+
 returns : tie.Need-returns
-unfolding stateIn listed
+unfolding heldIn heldFrom
 returns c =
-    let a = c .args .t1 in
-    let is : _≡_ {A = State} _ (stateIn a) = λ i. record { cells = part-listed a 0 16 (omega (arith, full c)) i; R₁ = a ⟨ 16 ⟩; R₂ = a ⟨ 17 ⟩ } in
-    (is, ap arrayOf is ∙ state-array a (full c))
+    let start = c .before .before in
+    let a = start .args .t1 in
+    let is : _≡_ {A = Held} _ (heldIn a) =
+    λ i. record { meaning = record { cells = cellsFrom (a ⟨ 18 ⟩) (c .places-in .ensures i); R₁ = a ⟨ 16 ⟩; R₂ = a ⟨ 17 ⟩ }; start = a ⟨ 18 ⟩ } in
+    (is, (ap arrayOf is ∙ held-array a (full start), fits start 18 .fits))
 
 pub state-in-spec : {M : Type 1} → statement M
 state-in-spec =
     tie.close
-    (tie.spec (λ c. search needs) (λ c. search needs) (λ c. search needs) (λ c. search needs) (λ c. search needs) (λ c. search needs) (λ c. search needs) (λ c. search needs) (λ c. search needs) (λ c. search needs) (λ c. search needs) (λ c. search needs) (λ c. search needs) (λ c. search needs) (λ c. search needs) (λ c. search needs) (λ c. search needs) (λ c. search needs) returns)
+    (tie.spec (λ c. search needs) (λ c κs. search needs) (λ c. search needs) (λ c. search needs) (λ c. search needs) (λ c. search needs) returns)

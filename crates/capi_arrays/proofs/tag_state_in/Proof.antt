@@ -6,14 +6,14 @@ use mir.Val.{Fits}
 use native.Mathlib.Omega.{arith}
 use Prim.Native.Nat.{ℕ}
 use Rattle.capi_arrays.proofs.Packing.{part-listed, stored-array}
-use Rattle.capi_arrays.specs.Arrays.{stateIn, storedIn, tagArrayOf}
+use Rattle.capi_arrays.specs.Arrays.{storedIn, tagArrayOf}
 use Rattle.standard.specs.States.{Stored}
 use Rattle.standard.specs.Notation.{_⟨_⟩, listed}
 use borrow.Author.Needs.{needs}
 use Rattle.capi_arrays.proofs.tag_state_in.Statement.{statement}
 use Rattle.capi_arrays.proofs.tag_state_in.Tie as tie
 
-full : (s : tie.Start) → length (s .args .t1) ≡ 19
+full : (s : tie.Start) → length (s .args .t1) ≡ 20
 full s = search needs
 
 fits : (s : tie.Start) (k : ℕ) → Fits w64 (s .args .t1 ⟨ k ⟩)
@@ -22,20 +22,20 @@ fits s k = search needs
 returns : tie.Need-returns
 unfolding storedIn listed
 returns c =
-    let start = c .before .before .before in
+    let start = c .before .before in
     let a = start .args .t1 in
     let is : _≡_ {A = Stored} _ (storedIn a) =
     λ i. record {
-      generator = (c .before .state-in .ensures .0 ∙ ap stateIn (c .before .before .halves-in .ensures)) i;
-      key = part-listed a 9 4 (omega (arith, full start)) i;
-      tag = part-listed a 13 2 (omega (arith, full start)) i;
+      generator = c .before .generator-in .ensures i;
+      key = part-listed a 10 4 (omega (arith, full start)) i;
+      tag = part-listed a 14 2 (omega (arith, full start)) i;
       rem = c .bytes-in .ensures i;
-      cnt = a ⟨ 17 ⟩;
-      width = a ⟨ 18 ⟩;
+      cnt = a ⟨ 18 ⟩;
+      width = a ⟨ 19 ⟩;
     } in
     (is, ap tagArrayOf is ∙ stored-array a (full start) (λ k h. fits start k .fits))
 
 pub tag-state-in-spec : {M : Type 1} → statement M
 tag-state-in-spec =
     tie.close
-    (tie.spec (λ c κs. search needs) (λ c κs. search needs) (λ c κs. search needs) (λ c. search needs) (λ c. search needs) (λ c. search needs) (λ c. search needs) (λ c. search needs) (λ c. search needs) (λ c. search needs) (λ c. search needs) returns)
+    (tie.spec (λ c κs. search needs) (λ c κs. search needs) (λ c. search needs) (λ c. search needs) (λ c. search needs) (λ c. search needs) (λ c. search needs) (λ c. search needs) (λ c. search needs) (λ c. search needs) returns)

@@ -39,7 +39,7 @@ use Rattle.keystream.specs.declared.DrawAnswer.{DrawAnswer}
 use Rattle.keystream.specs.declared.Drew.{Drew}
 use Rattle.keystream.specs.Draws.{drawOutcome, drawTold}
 use Rattle.zuc.specs.declared.Zuc.{Zuc}
-use Rattle.zuc.specs.Reading.{stateOf}
+use Rattle.zuc.specs.Reading.{heldOf}
 use Rattle.zuc.proofs.Zuc as T
 use Rattle.zuc.proofs.Zuc.Laws as T′
 use Rattle.keystream.proofs.Drew as D
@@ -66,7 +66,7 @@ abbrev stayed : Stays (in-place.ended .signature .params) (in-place.ended .kept)
 stayed = (stay-ref (0 ∷ []) tt (plain (λ _. T.the-row)), tt)
 
 abbrev Right : Zuc → Drew → Type 0
-Right h r = drawTold r ≡ drawOutcome (stateOf h)
+Right h r = drawTold r ≡ drawOutcome (heldOf h)
 
 -- what is known of the fields of what `generate` returned
 answer-is : (r : Drew) (w : Val) → Is D.the-row r (w ∷ []) → Is E.the-row (r .answer) (answered (r .answer) ∷ [])

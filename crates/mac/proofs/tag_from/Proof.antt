@@ -8,7 +8,7 @@ use borrow.Author.Needs.{needs}
 use borrow.Author.Tests.{leb-true, not-false, not-true}
 use denote.Ref.{now}
 use Rattle.keystream.specs.Starts.{startNumber}
-use Rattle.zuc.specs.Reading.{stateOf}
+use Rattle.zuc.specs.Reading.{heldOf}
 use Rattle.mac_registers.specs.Stored.{packed}
 use Rattle.standard.specs.States.{Stored}
 use Rattle.mac_registers.specs.Tagging.{closed-EIA3}
@@ -47,7 +47,7 @@ close-128-requires c κs =
       (
         b .before .before .before .s1 .ensures,
         (
-          held-as (b .begin-128 .ensures) (good-EIA3 (stateOf (s .args .start .state)) (s .pre .0 (ap startNumber (m .enum-told .given .1)))),
+          held-as (b .begin-128 .ensures) (good-EIA3 (heldOf (s .args .start .state)) (s .pre .0 (ap startNumber (m .enum-told .given .1)))),
           (
             ap (λ (x : Stored). x .width) (b .begin-128 .ensures),
             leb-true (s .args .l) (length (now (s .args .message)) * 8) (fits f (not-false (f .bits-fit .result) (i .if1 .left))),
@@ -69,7 +69,7 @@ returns-2 c =
     (ap (λ (x : ℕ). record { number = 0; tag = x })
     (c .close-128 .ensures
     ∙ at-packed (λ w st. closed-EIA3 st (now (a .message)) (a .l)) (b .begin-128 .ensures)
-    (good-EIA3 (stateOf (a .start .state)) (s .pre .0 (ap startNumber (m .enum-told .given .1))))))
+    (good-EIA3 (heldOf (a .start .state)) (s .pre .0 (ap startNumber (m .enum-told .given .1))))))
 
 returns-3 : tie.Need-returns-3
 unfolding once-from-128 tested

@@ -7,7 +7,7 @@ use lib.ListN.{drop, length, length-drop, take}
 use lib.Seq.{length-take-le}
 use denote.Ref.{now}
 use Rattle.mac_registers.specs.Stored.{packed, storedOf, taggingOf}
-use Rattle.mac_registers.specs.Inner.{Held}
+use Rattle.mac_registers.specs.Inner.{Holds}
 use Rattle.standard.specs.States.{Stored}
 use Rattle.mac_registers.specs.Tagging.{updated}
 use Rattle.mac_registers.proofs.Cutting.{updated-from}
@@ -39,7 +39,7 @@ same-width : (l : tie.At-loop Inv-loop μ-loop) → l .loop .s .width ≡ l .bef
 unfolding packed
 same-width l = ap (λ (x : Stored). x .width) (l .loop .inv .3)
 
-held : (l : tie.At-loop Inv-loop μ-loop) → Held (storedOf (l .loop .s))
+held : (l : tie.At-loop Inv-loop μ-loop) → Holds (storedOf (l .loop .s))
 held l = held-as (l .loop .inv .3) (good-updated _ (l .before .before .pre .1 .1 .0 .good))
 
 portion-requires : tie.Need-portion-requires Inv-loop μ-loop

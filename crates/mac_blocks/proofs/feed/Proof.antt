@@ -7,9 +7,10 @@ use lib.ListN.{length, replicate, take}
 use lib.Seq.{length-take-le}
 use borrow.Author.Needs.{needs}
 use denote.Ref.{now}
-use Rattle.standard.specs.Generator.{State, after, wordAt}
+use Rattle.standard.specs.Generator.{wordAt}
+use Rattle.standard.specs.States.{Held, moved}
 use Rattle.standard.specs.Notation.{listed}
-use Rattle.zuc.specs.Reading.{stateOf}
+use Rattle.zuc.specs.Reading.{heldOf}
 use Rattle.mac_registers.specs.Stored.{packed, storedOf, taggingOf}
 use Rattle.mac_registers.specs.Tagging.{Tagging, updated}
 use Rattle.mac_blocks.specs.InnerWhole.{emptyOf}
@@ -30,13 +31,13 @@ words-into-requires c κs =
 -- the words drawn stand at the front of the array
 drew : (d : tie.After-words-into) (l : List ℕ) →
     (take (length (now (d .before .before .before .before .before .before .args .part)) / 4) (d .words-into .last .1 .1 .1 .0 ++ l)
-    ≡ listed (wordAt (stateOf (d .before .before .before .before .before .before .args .s .g))) 0 (length (now (d .before .before .before .before .before .before .args .part)) / 4))
+    ≡ listed (wordAt (heldOf (d .before .before .before .before .before .before .args .s .g) .meaning)) 0 (length (now (d .before .before .before .before .before .before .args .part)) / 4))
     × (length (now (d .before .before .before .before .before .before .args .part)) / 4 ≤ length (d .words-into .last .1 .1 .1 .0 ++ l))
     × (length (take (length (now (d .before .before .before .before .before .before .args .part)) / 4) (d .words-into .last .1 .1 .1 .0 ++ l))
     ≡ length (now (d .before .before .before .before .before .before .args .part)) / 4)
 drew d l =
     let s = d .before .before .before .before .before .before in
-    filled (wordAt (stateOf (s .args .s .g))) (length (now (s .args .part)) / 4) (d .words-into .last .1 .1 .1 .0) (replicate 64 0) l (d .words-into .ensures .1)
+    filled (wordAt (heldOf (s .args .s .g) .meaning)) (length (now (s .args .part)) / 4) (d .words-into .last .1 .1 .1 .0) (replicate 64 0) l (d .words-into .ensures .1)
     (omega (arith, s .pre .1 .1 .1 .1))
 
 array-share-prefix-words : tie.Need-array-share-prefix-words
@@ -62,9 +63,9 @@ returns c =
     let words = drew d _ in
     let f = c .before .before .feed-all .result in
     let n : ℕ = length (now (a .part)) / 4 in (
-      ap (λ (τ : State). emptyOf w τ (f .key) (f .tag))
-          (d .words-into .ensures .0 ∙ ap (λ (k : ℕ). after k (stateOf (a .s .g))) (length-take-le n (replicate 64 0) (omega (arith, s .pre .1 .1 .1 .1))))
-          ∙ c .before .before .feed-all .ensures (stateOf (a .s .g)) (emptied-held (storedOf (a .s)) (s .pre .1 .1 .0)) (words .0 ∙ ap (listed (wordAt (stateOf (a .s .g))) 0) (sym (words .2)))
+      ap (λ (τ : Held). emptyOf w τ (f .key) (f .tag))
+          (d .words-into .ensures .0 ∙ ap (λ (k : ℕ). moved k (heldOf (a .s .g))) (length-take-le n (replicate 64 0) (omega (arith, s .pre .1 .1 .1 .1))))
+          ∙ c .before .before .feed-all .ensures (heldOf (a .s .g)) (emptied-held (storedOf (a .s)) (s .pre .1 .1 .0)) (words .0 ∙ ap (listed (wordAt (heldOf (a .s .g) .meaning)) 0) (sym (words .2)))
           ∙ ap (λ (st : Tagging). packed w (updated (w * 8) st (now (a .part)))) (emptied-is (storedOf (a .s)) (s .pre .1 .1 .1 .0)),
       refl,
     )

@@ -7,10 +7,11 @@ use lib.ListN.{drop, length, length-drop, take}
 use lib.Seq.{length-take-le}
 use borrow.Author.Needs.{needs}
 use denote.Ref.{now}
-use Rattle.standard.specs.Generator.{State, after, wordAt}
+use Rattle.standard.specs.Generator.{wordAt}
+use Rattle.standard.specs.States.{Held, moved}
 use Rattle.standard.specs.Notation.{listed}
 use Rattle.mac_registers.specs.Stored.{packed, taggingOf}
-use Rattle.mac_registers.specs.Inner.{Held}
+use Rattle.mac_registers.specs.Inner.{Holds}
 use Rattle.mac_registers.specs.Tagging.{updated}
 use Rattle.mac_blocks.specs.InnerWhole.{emptyOf}
 use Rattle.mac_blocks.proofs.Ahead.{fed-all, fed-none, fed-on, room, words-lt}
@@ -21,8 +22,8 @@ abbrev Inv-loop : tie.InvT-loop
 Inv-loop width words part fed₀ i₀ fed i =
     (i ≤ length part)
     × ((n : ℕ) × (i ≡ n * width))
-    × ((σ : State) → Held (emptyOf width σ (fed₀ .key) (fed₀ .tag)) → words ≡ listed (wordAt σ) 0 (length words)
-    → emptyOf width (after (i / 4) σ) (fed .key) (fed .tag) ≡ packed width (updated (width * 8) (taggingOf (emptyOf width σ (fed₀ .key) (fed₀ .tag))) (take i part)))
+    × ((σ : Held) → Holds (emptyOf width σ (fed₀ .key) (fed₀ .tag)) → words ≡ listed (wordAt (σ .meaning)) 0 (length words)
+    → emptyOf width (moved (i / 4) σ) (fed .key) (fed .tag) ≡ packed width (updated (width * 8) (taggingOf (emptyOf width σ (fed₀ .key) (fed₀ .tag))) (take i part)))
 
 abbrev μ-loop : tie.MeasureT-loop
 μ-loop width words part fed₀ i₀ fed i = length part - i

@@ -5,6 +5,7 @@ use mathlib.Core.Path.{_≡_, refl, _∙_, ap, sym}
 use native.Mathlib.Omega.{arith}
 use Prim.Native.Nat.{ℕ, _+_, _*_, _-_, _/_, _≤_}
 use Rattle.standard.specs.Generator.{State}
+use Rattle.standard.specs.States.{Held}
 use Rattle.standard.specs.Notation.{_⟨_⟩}
 use Rattle.zuc_turn.specs.InnerRun.{raisedOf}
 use borrow.Author.Needs.{needs}
@@ -36,12 +37,12 @@ cast-t29 c =
     record { fits = rw (pre .1 .1) at (pre .0 .good .tag-lt) }
 
 loop-holds : tie.Need-loop-holds Inv-loop μ-loop
-unfolding updated
+unfolding updated taggingOf
 loop-holds c =
     let start = c .before .before .before .before .before .before .before .before .before .before in
     let laid = c .before .before .lay-state .ensures in
     let none : start .args .from - start .args .from ≡ 0 = omega arith in
-    (start .pre .1 .1 .1 .0 .1, (0, omega arith), record { laid = laid .laid; low = laid .low; tagging = rw none refl })
+    (start .pre .1 .1 .1 .0 .1, (0, omega arith), record { laid = laid .laid; low = laid .low; start = start .pre .1 .1 .0 .good .sound .start; tagging = rw none refl })
 
 words-32-requires : tie.Need-words-32-requires Inv-loop μ-loop
 words-32-requires c κs =
@@ -50,7 +51,7 @@ words-32-requires c κs =
     let pre = at-raised .before .before .before .before .before .pre in
     let l = loop .loop in (
       at-raised .raised .ensures ∙ ap raisedOf (pre .0),
-      (pre .1 .0, (l .inv .2 .laid, (l .inv .2 .low, (simp (length-take, length-drop) (omega arith), simp (length-take, length-drop) (omega arith))))),
+      (pre .1 .0, (l .inv .2 .laid, ((l .inv .2 .low, l .inv .2 .start), (simp (length-take, length-drop) (omega arith), simp (length-take, length-drop) (omega arith))))),
     )
 
 loop-again : tie.Need-loop-again Inv-loop μ-loop
@@ -68,6 +69,7 @@ loop-again c =
       record {
         laid = f .laid;
         low = f .low;
+        start = f .start;
         tagging =
             f .tagging
             ∙ ap (λ (st : Tagging). updated 32 st (take (e - l .i) (drop (l .i) m))) (l .inv .2 .tagging)
@@ -76,7 +78,7 @@ loop-again c =
     )
 
 state-of-requires : tie.Need-state-of-requires Inv-loop μ-loop
-state-of-requires c κs = let l = c .before .before .before .loop in (l .inv .2 .laid .long, l .inv .2 .low)
+state-of-requires c κs = let l = c .before .before .before .loop in (l .inv .2 .laid .long, (l .inv .2 .low, l .inv .2 .start))
 
 returns : tie.Need-returns Inv-loop μ-loop
 returns c =
@@ -90,15 +92,15 @@ returns c =
     let key : ℕ = a .start .key ⟨ 0 ⟩ in
     let tag : ℕ = a .start .tag ⟨ 0 ⟩ in
     let part : List ℕ = take (l .i - a .from) (drop (a .from) (a .message .now)) in
-    let same : taggingAt (at-lay .lay-state .last .1 .0) (record { h = at-lay .lay-state .result; key = key; tag = tag }) ≡ taggingOf (storedOf (a .start)) =
-    ap (λ (σ : State). idle σ key tag) (at-lay .lay-state .ensures .state) ∙ taken-out (storedOf (a .start)) width (pre .0 .0) in
+    let same : taggingAt (at-lay .lay-state .last .1 .0) (record { h = at-lay .lay-state .result; key = key; tag = tag; start = a .start .g .start }) ≡ taggingOf (storedOf (a .start)) =
+    ap (λ (σ : State). idle (record { meaning = σ; start = a .start .g .start }) key tag) (at-lay .lay-state .ensures .state) ∙ taken-out (storedOf (a .start)) width (pre .0 .0) in
     record {
       count = l .inv .1 .0;
       at-is = l .inv .1 .1 ∙ ap (λ (w : ℕ). a .from + l .inv .1 .0 * w) (sym width);
       within = l .inv .0;
       all = omega (arith, c .before .before .before .before .loop-test .left, width);
       held =
-          ap (λ (σ : State). record { generator = σ; key = l .s .key ∷ 0 ∷ 0 ∷ 0 ∷ []; tag = l .s .tag ∷ 0 ∷ []; rem = replicate 16 0; cnt = 0; width = 4 })
+          ap (λ (k : Held). record { generator = k; key = l .s .key ∷ 0 ∷ 0 ∷ 0 ∷ []; tag = l .s .tag ∷ 0 ∷ []; rem = replicate 16 0; cnt = 0; width = 4 })
           (c .before .state-of .ensures)
           ∙ put-back _ (l .s .key) (l .s .tag)
           ∙ ap (packed 4) (l .inv .2 .tagging ∙ ap (λ (st : Tagging). updated 32 st part) same)

@@ -6,7 +6,7 @@ use borrow.Author.Needs.{needs}
 use borrow.Author.Tests.{not-true, not-false}
 use Rattle.standard.specs.Confidentiality.{maskedBuffer}
 use Rattle.standard.specs.Notation.{eachFrom}
-use Rattle.standard.proofs.Cells.{wellFormed-cells}
+use Rattle.zuc.proofs.Turning.{ready}
 use Rattle.standard.proofs.Each.{each-each}
 use Rattle.mask.specs.Inner.{cleared}
 use Rattle.mask.proofs.Outcomes.{bad-state, bad-bits, accepted}
@@ -25,7 +25,7 @@ mask-all-requires : tie.Need-mask-all-requires
 mask-all-requires c κs =
     let t = c .before .before .before .before .before in (
       c .before .before .before .before .s0 .ensures,
-      (c .before .before .before .s1 .ensures, wellFormed-cells _ (search needs) (sym (t .before .before .before .is-well-formed .ensures) ∙ not-false _ (t .before .before .if1 .left))),
+      (c .before .before .before .s1 .ensures, ready _ (search needs) (sym (t .before .before .before .is-well-formed .ensures) ∙ not-false _ (t .before .before .if1 .left))),
     )
 
 returns-3 : tie.Need-returns-3

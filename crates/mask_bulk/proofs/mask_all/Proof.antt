@@ -5,13 +5,14 @@ use native.Mathlib.Omega.{arith}
 use Prim.Native.Nat.{ℕ, _+_, _*_, _-_, _/_, _%_, _≤_}
 use borrow.Author.Needs.{needs}
 use Rattle.standard.proofs.Each.{doneFrom, from-end, from-start}
-use Rattle.standard.proofs.Generator.{after-none, word-after, wordAt-after}
+use Rattle.standard.proofs.Generator.{after-none, wordAt-after}
+use Rattle.standard.proofs.Held.{Ready, moved-is, word-moved}
 use Rattle.standard.specs.Confidentiality.{masked, wordsToMask}
 use Rattle.standard.specs.Notation.{eachFrom}
-use Rattle.standard.proofs.Cells.{Cells}
 use Rattle.standard.specs.Generator.{State, after, word, wordAt}
+use Rattle.standard.specs.States.{Held, moved}
 use Rattle.zuc_bulk.proofs.Filling.{turn-on}
-use Rattle.zuc.specs.Reading.{stateOf}
+use Rattle.zuc.specs.Reading.{heldOf}
 use Rattle.zuc.specs.Inner.{Draw}
 use Rattle.zuc_turn.specs.InnerRun.{Standing, raisedOf, stateAt}
 use Rattle.mask_bulk.proofs.Words.{alone, turn-masked, turn-state}
@@ -19,7 +20,7 @@ use Rattle.mask_bulk.proofs.mask_all.Statement.{statement}
 use Rattle.mask_bulk.proofs.mask_all.Tie as tie
 
 abbrev Inv-loop : tie.InvT-loop
-Inv-loop t0 t1 buf₀ high run₀ pairs₀ h₀ i₀ buf run pairs h i =
+Inv-loop t0 t1 start buf₀ high run₀ pairs₀ h₀ i₀ buf run pairs h i =
     (i ≤ length buf₀)
     × (i % 4 ≡ 0)
     × (length buf ≡ length buf₀)
@@ -27,7 +28,7 @@ Inv-loop t0 t1 buf₀ high run₀ pairs₀ h₀ i₀ buf run pairs h i =
     × (doneFrom (masked (wordAt (stateAt run₀ 0 h₀))) i buf ≡ doneFrom (masked (wordAt (stateAt run₀ 0 h₀))) 0 buf₀)
 
 abbrev μ-loop : tie.MeasureT-loop
-μ-loop t0 t1 buf₀ high run₀ pairs₀ h₀ i₀ buf run pairs h i = length buf₀ - i
+μ-loop t0 t1 start buf₀ high run₀ pairs₀ h₀ i₀ buf run pairs h i = length buf₀ - i
 
 lay-state-requires : tie.Need-lay-state-requires Inv-loop μ-loop
 lay-state-requires c κs = ((refl, refl), c .before .before .before .before .pre .1 .1)
@@ -63,14 +64,21 @@ loop-again c =
           ∙ l .inv .4,
     )
 
+index-after-requires : tie.Need-index-after-requires Inv-loop μ-loop
+index-after-requires c κs = c .before .before .before .before .before .before .before .before .before .before .pre .1 .1 .start
+
 state-of-requires : tie.Need-state-of-requires Inv-loop μ-loop
-state-of-requires c κs = let standing = c .before .before .loop .inv .3 in (standing .laid .long, standing .low)
+state-of-requires c κs =
+    let standing = c .before .before .before .loop .inv .3 in
+    (standing .laid .long, (standing .low, omega (arith, c .index-after .ensures)))
 
 draw-requires : tie.Need-draw-requires Inv-loop μ-loop
 draw-requires c κs =
-    let loop = c .before .before .before in
+    let loop = c .before .before .before .before in
     let pre = loop .before .before .before .before .before .before .before .before .pre in
-    (pre .0, (pre .1 .0, subst (λ (τ : State). Cells (τ .cells)) (sym (c .state-of .ensures)) (loop .loop .inv .3 .laid .cells)))
+    let ready : Ready (record { meaning = stateAt (loop .loop .run) 0 (loop .loop .h); start = c .before .index-after .result }) =
+    record { cells = loop .loop .inv .3 .laid .cells; start = omega (arith, c .before .index-after .ensures) } in
+    (pre .0, (pre .1 .0, subst Ready (sym (c .state-of .ensures)) ready))
 
 xor-rest-requires : tie.Need-xor-rest-requires Inv-loop μ-loop
 xor-rest-requires c κs = simp (length-take, length-drop) (omega arith)
@@ -82,19 +90,21 @@ returns : tie.Need-returns Inv-loop μ-loop
 returns c =
     let at-draw = c .before .before .before .before .before in
     let at-state = at-draw .before in
-    let loop = at-state .before .before .before in
+    let loop = at-state .before .before .before .before in
     let l = loop .loop in
     let at-lay = loop .before .before .before in
     let start = at-lay .before .before .before .before .before in
     let i : ℕ = l .i in
     let n : ℕ = length (l .buf) in
+    let h = heldOf (start .args .start) in
     let same = at-lay .lay-state .ensures .state in
     let σ : State = stateAt (at-lay .lay-state .last .1 .0) 0 (at-lay .lay-state .result) in
-    let at : stateOf (at-state .state-of .result) ≡ after (i / 4) σ = at-state .state-of .ensures ∙ l .inv .3 .state in
-    let drawn = ap (λ (d : Draw). d .word) (at-draw .draw .ensures) ∙ ap word at ∙ word-after (i / 4) σ in (
+    let at : heldOf (at-state .state-of .result) ≡ moved (i / 4) h =
+    at-state .state-of .ensures
+    ∙ moved-is (i / 4) h (start .pre .1 .1 .start) (l .inv .3 .state ∙ ap (after (i / 4)) same) (at-state .before .index-after .ensures) in
+    let drawn = ap (λ (d : Draw). d .word) (at-draw .draw .ensures) ∙ ap (λ (k : Held). word (k .meaning)) at ∙ word-moved (i / 4) h ∙ ap (λ (τ : State). wordAt τ (i / 4)) (sym same) in (
       ap (λ (d : Draw). d .state) (at-draw .draw .ensures)
-          ∙ turn-state σ _ (i / 4) (wordsToMask (length (start .args .buf .now))) at (omega arith)
-          ∙ ap (after (wordsToMask (length (start .args .buf .now)))) same,
+          ∙ turn-state h _ (i / 4) (wordsToMask (length (start .args .buf .now))) at (omega arith),
       sym (from-end (masked (wordAt σ)) n _ (omega (arith, same-length c)))
           ∙ turn-masked σ (i / 4) i n (omega arith) _ (l .buf) _ n (omega arith) (omega arith) (alone σ (i / 4) i n (omega arith) drawn (omega arith)) (c .before .before .before .xor-rest .ensures)
           ∙ l .inv .4
@@ -105,4 +115,4 @@ returns c =
 pub mask-all-spec : {M : Type 1} → statement M
 mask-all-spec =
     tie.close
-    (tie.spec Inv-loop μ-loop (λ c κs. search needs) (λ c. search needs) (λ c. search needs) lay-state-requires loop-holds (λ c. omega arith) (λ c. omega arith) (λ c κs. search needs) (λ c. omega arith) (λ c. omega arith) (λ c. search needs) (λ c. search needs) (λ c. omega arith) (λ c. omega arith) (λ c. omega arith) mask-block-requires (λ c. omega arith) loop-again (λ c. search needs) state-of-requires draw-requires (λ c. omega arith) (λ c. omega arith) (λ c. omega arith) xor-rest-requires same-length returns)
+    (tie.spec Inv-loop μ-loop (λ c κs. search needs) (λ c. search needs) (λ c. search needs) lay-state-requires loop-holds (λ c. omega arith) (λ c. omega arith) (λ c κs. search needs) (λ c. omega arith) (λ c. omega arith) (λ c. search needs) (λ c. search needs) (λ c. omega arith) (λ c. omega arith) (λ c. omega arith) mask-block-requires (λ c. omega arith) loop-again (λ c. search needs) index-after-requires state-of-requires draw-requires (λ c. omega arith) (λ c. omega arith) (λ c. omega arith) xor-rest-requires same-length returns)

@@ -1,9 +1,16 @@
 -- `zuc256_start` puts the keystream's start.
+use lib.Dec.{lit<}
 use mathlib.Core.Path.{_∙_, ap}
+use Rattle.capi.proofs.Indices.{start-fits}
 use Rattle.capi.specs.Generators.{startArray}
+use Rattle.keystream.specs.Starts.{start₂₅₆}
 use borrow.Author.Needs.{needs}
 use Rattle.capi.proofs.generators.zuc256_start.Statement.{statement}
 use Rattle.capi.proofs.generators.zuc256_start.Tie as tie
+
+put-start-requires : tie.Need-put-start-requires
+unfolding start₂₅₆
+put-start-requires c κs = start-fits _ (lit< tt, (lit< tt, tt)) _ (c .new .ensures)
 
 returns : tie.Need-returns
 returns c = c .put-start .ensures ∙ ap startArray (c .before .new .ensures)
@@ -11,4 +18,4 @@ returns c = c .put-start .ensures ∙ ap startArray (c .before .new .ensures)
 pub zuc256-start-spec : {M : Type 1} → statement M
 zuc256-start-spec =
     tie.close
-    (tie.spec (λ c κs. search needs) (λ c κs. search needs) returns)
+    (tie.spec (λ c κs. search needs) put-start-requires returns)

@@ -8,8 +8,8 @@ use mir.Val.{Fits}
 use Rattle.standard.specs.Notation.{_⟨_⟩}
 use Rattle.standard.specs.Integrity.{IV-EIA3}
 use Rattle.keystream.specs.Starts.{StartOutcome, start₁₂₈}
-use Rattle.mac.specs.Inner.{Ready, once-from-128}
-use Rattle.mac.proofs.Accepted.{no-width-128, ready-128}
+use Rattle.mac.specs.Inner.{Live, once-from-128}
+use Rattle.mac.proofs.Accepted.{no-width-128, live-128}
 use Rattle.mac.proofs.Outcomes.{once-128-is, once-EIA3-is}
 use Rattle.mac.proofs.eia3.compute.Statement.{statement}
 use Rattle.mac.proofs.eia3.compute.Tie as tie
@@ -22,7 +22,7 @@ tag-from-requires c κs =
     let v = c .before .before in
     let k = v .before .before in
     let key = now (k .before .args .key) in (
-      subst Ready (sym (c .new .ensures)) (ready-128 key (v .iv .result) (λ i. k .shared-slice-known .given i .fits) (λ i. iv-bytes v i .fits)),
+      subst Live (sym (c .new .ensures)) (live-128 key (v .iv .result) (λ i. k .shared-slice-known .given i .fits) (λ i. iv-bytes v i .fits)),
       λ e. no-width-128 key (v .iv .result) (ap (λ (o : StartOutcome). o .number) (sym (c .new .ensures)) ∙ e),
     )
 

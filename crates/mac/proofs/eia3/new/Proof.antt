@@ -8,8 +8,8 @@ use mir.Val.{Fits}
 use Rattle.standard.specs.Notation.{_⟨_⟩}
 use Rattle.keystream.specs.Starts.{start₁₂₈}
 use Rattle.standard.specs.Integrity.{IV-EIA3}
-use Rattle.mac.specs.Inner.{Ready, begun-128}
-use Rattle.mac.proofs.Accepted.{ready-128}
+use Rattle.mac.specs.Inner.{Live, begun-128}
+use Rattle.mac.proofs.Accepted.{live-128}
 use Rattle.mac.proofs.Outcomes.{begun-128-is, begun-EIA3-is}
 use Rattle.mac.proofs.eia3.new.Statement.{statement}
 use Rattle.mac.proofs.eia3.new.Tie as tie
@@ -21,8 +21,8 @@ begin-from-requires : tie.Need-begin-from-requires
 begin-from-requires c κs =
     let v = c .before .before in
     let k = v .before in
-    subst Ready (sym (c .new .ensures))
-    (ready-128 (now (k .before .args .key)) (v .iv .result) (λ i. k .shared-slice-known .given i .fits) (λ i. iv-bytes v i .fits))
+    subst Live (sym (c .new .ensures))
+    (live-128 (now (k .before .args .key)) (v .iv .result) (λ i. k .shared-slice-known .given i .fits) (λ i. iv-bytes v i .fits))
 
 returns : tie.Need-returns
 returns c =

@@ -3,8 +3,8 @@ use mathlib.Core.Path.{_∙_, ap, subst, sym}
 use borrow.Author.Needs.{needs}
 use denote.Ref.{now}
 use Rattle.keystream.specs.Starts.{StartOutcome}
-use Rattle.mac.specs.Inner.{Ready, once-from-128}
-use Rattle.mac.proofs.Accepted.{no-width-128, ready-128}
+use Rattle.mac.specs.Inner.{Live, once-from-128}
+use Rattle.mac.proofs.Accepted.{no-width-128, live-128}
 use Rattle.mac.proofs.Outcomes.{once-128-is}
 use Rattle.mac.proofs.zuc128.compute.Statement.{statement}
 use Rattle.mac.proofs.zuc128.compute.Tie as tie
@@ -14,8 +14,8 @@ tag-from-requires c κs =
     let v = c .before .before in
     let k = v .before in
     let a = k .before .args in (
-      subst Ready (sym (c .new .ensures))
-          (ready-128 (now (a .key)) (now (a .iv)) (λ i. k .shared-slice-known .given i .fits) (λ i. v .shared-slice-known2 .given i .fits)),
+      subst Live (sym (c .new .ensures))
+          (live-128 (now (a .key)) (now (a .iv)) (λ i. k .shared-slice-known .given i .fits) (λ i. v .shared-slice-known2 .given i .fits)),
       λ e. no-width-128 (now (a .key)) (now (a .iv)) (ap (λ (o : StartOutcome). o .number) (sym (c .new .ensures)) ∙ e),
     )
 

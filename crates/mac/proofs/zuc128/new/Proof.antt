@@ -2,8 +2,8 @@
 use mathlib.Core.Path.{_∙_, ap, subst, sym}
 use borrow.Author.Needs.{needs}
 use denote.Ref.{now}
-use Rattle.mac.specs.Inner.{Ready, begun-128}
-use Rattle.mac.proofs.Accepted.{ready-128}
+use Rattle.mac.specs.Inner.{Live, begun-128}
+use Rattle.mac.proofs.Accepted.{live-128}
 use Rattle.mac.proofs.Outcomes.{begun-128-is}
 use Rattle.mac.proofs.zuc128.new.Statement.{statement}
 use Rattle.mac.proofs.zuc128.new.Tie as tie
@@ -13,8 +13,8 @@ begin-from-requires c κs =
     let v = c .before in
     let k = v .before in
     let a = k .before .args in
-    subst Ready (sym (c .new .ensures))
-    (ready-128 (now (a .key)) (now (a .iv)) (λ i. k .shared-slice-known .given i .fits) (λ i. v .shared-slice-known2 .given i .fits))
+    subst Live (sym (c .new .ensures))
+    (live-128 (now (a .key)) (now (a .iv)) (λ i. k .shared-slice-known .given i .fits) (λ i. v .shared-slice-known2 .given i .fits))
 
 returns : tie.Need-returns
 returns c =

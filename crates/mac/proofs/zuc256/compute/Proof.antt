@@ -6,17 +6,17 @@ use lib.ListN.{length}
 use borrow.Author.Needs.{needs}
 use borrow.Author.Tests.{leb-true, not-false, not-true}
 use denote.Ref.{now}
-use Rattle.standard.proofs.Cells.{Cells}
-use Rattle.zuc.specs.Reading.{stateOf}
+use Rattle.standard.proofs.Held.{Ready}
+use Rattle.zuc.specs.Reading.{heldOf}
 use Rattle.keystream.specs.Starts.{StartOutcome, startNumber, startTold}
 use Rattle.mac_registers.specs.Stored.{tagWords}
 use Rattle.mac_registers.specs.Inner.{Width}
 use Rattle.mac_registers.specs.Tagging.{closed-ZUC256}
 use Rattle.mac_registers.proofs.Packed.{at-packed, good-ZUC256, held-as}
 use Rattle.standard.specs.Refusals.{tested}
-use Rattle.mac.specs.Inner.{Ready, once-from-256}
+use Rattle.mac.specs.Inner.{Live, once-from-256}
 use Rattle.mac.specs.Calls.{onceOutcome-256}
-use Rattle.mac.proofs.Accepted.{accepted-width, ready-256}
+use Rattle.mac.proofs.Accepted.{accepted-width, live-256}
 use Rattle.mac.proofs.Outcomes.{once-256-is, spelled-tag}
 use Rattle.mac.proofs.zuc256.compute.Statement.{statement}
 use Rattle.mac.proofs.zuc256.compute.Tie as tie
@@ -30,13 +30,13 @@ module _ (n : tie.After-new-with-d) (e : startTold (n .new-with-d .result) .numb
       let a = n .before .before .before .before .args in
       accepted-width (a .width) (now (a .key)) (now (a .iv)) (ap (λ (o : StartOutcome). o .number) (sym (n .new-with-d .ensures)) ∙ e)
 
-  sound : Cells (stateOf (n .new-with-d .result .state) .cells)
+  sound : Ready (heldOf (n .new-with-d .result .state))
   sound =
       let v = n .before .before in
       let k = v .before in
       let a = k .before .args in
-      subst Ready (sym (n .new-with-d .ensures))
-      (ready-256 (a .width) (now (a .key)) (now (a .iv)) (λ i. k .shared-slice-known .given i .fits) (λ i. v .shared-slice-known2 .given i .fits)) e
+      subst Live (sym (n .new-with-d .ensures))
+      (live-256 (a .width) (now (a .key)) (now (a .iv)) (λ i. k .shared-slice-known .given i .fits) (λ i. v .shared-slice-known2 .given i .fits)) e
 
 -- the outcome, told of the keystream's start
 told : (n : tie.After-new-with-d)
@@ -75,7 +75,7 @@ close-256-requires c κs =
       (
         b .before .before .before .s1 .ensures,
         (
-          held-as (b .begin-256 .ensures) (good-ZUC256 (width n e) (stateOf (n .new-with-d .result .state)) (sound n e)),
+          held-as (b .begin-256 .ensures) (good-ZUC256 (width n e) (heldOf (n .new-with-d .result .state)) (sound n e)),
           leb-true (a .l) (length (now (a .message)) * 8) (sym (f .bits-fit .ensures) ∙ not-false (f .bits-fit .result) (i .if1 .left)),
         ),
       ),
@@ -96,7 +96,7 @@ returns-2 c =
     (sym (spelled-tag (c .close-256 .result) (tag-length c)
     ∙ c .close-256 .ensures
     ∙ at-packed (λ w st. tagWords w (closed-ZUC256 (w * 8) st (now (a .message)) (a .l))) (b .begin-256 .ensures)
-    (good-ZUC256 (width n e) (stateOf (n .new-with-d .result .state)) (sound n e))))))
+    (good-ZUC256 (width n e) (heldOf (n .new-with-d .result .state)) (sound n e))))))
     ∙ told n
 
 returns-3 : tie.Need-returns-3

@@ -5,8 +5,8 @@ use denote.Ref.{now}
 use Rattle.keystream.specs.declared.StartAnswer.{StartAnswer}
 use Rattle.keystream.specs.Starts.{StartOutcome, startNumber, startTag₂₅₆, startTold}
 use Rattle.mac_registers.specs.Stored.{storedOf}
-use Rattle.mac.specs.Inner.{Ready, begun-256}
-use Rattle.mac.proofs.Accepted.{accepted-width, ready-256}
+use Rattle.mac.specs.Inner.{Live, begun-256}
+use Rattle.mac.proofs.Accepted.{accepted-width, live-256}
 use Rattle.mac.proofs.Outcomes.{begun-256-is, refused-as, started-as}
 use Rattle.mac.proofs.zuc256.new.Statement.{statement}
 use Rattle.mac.proofs.zuc256.new.Tie as tie
@@ -28,8 +28,8 @@ begin-256-requires c κs =
       (
         c .before .before .s1 .ensures,
         (
-          subst Ready (sym (n .new-with-d .ensures))
-              (ready-256 (a .width) (now (a .key)) (now (a .iv)) (λ i. k .shared-slice-known .given i .fits) (λ i. v .shared-slice-known2 .given i .fits)) e,
+          subst Live (sym (n .new-with-d .ensures))
+              (live-256 (a .width) (now (a .key)) (now (a .iv)) (λ i. k .shared-slice-known .given i .fits) (λ i. v .shared-slice-known2 .given i .fits)) e,
           accepted-width (a .width) (now (a .key)) (now (a .iv)) (zero-number n e),
         ),
       ),

@@ -8,8 +8,9 @@ use lib.ListN.{length}
 use mir.Syntax.{w64}
 use mir.Val.{Fits}
 use Rattle.standard.specs.Notation.{_⟨_⟩}
+use Rattle.zuc.proofs.Turning.{length-from}
 use Rattle.mac_registers.specs.Stored.{storedOf}
-use Rattle.mac_registers.specs.Inner.{Held}
+use Rattle.mac_registers.specs.Inner.{Holds}
 use Rattle.standard.specs.States.{formed}
 use Rattle.mac_registers.proofs.Packed.{Typed, formed-held}
 use Rattle.mac_registers.proofs.forms.is_formed.Statement.{statement}
@@ -25,13 +26,13 @@ lengths : (s : tie.Start)
     → (length (s .args .s .g .s) ≡ 16) × (length (s .args .s .key) ≡ 4) × (length (s .args .s .tag) ≡ 2) × (length (s .args .s .rem) ≡ 16)
 lengths s = (search needs, search needs, search needs, search needs)
 
-answer : (s : tie.Start) (r : Bool) → r ≡ formed (storedOf (s .args .s)) → (r ≡ formed (storedOf (s .args .s))) × (r ≡ true → Held (storedOf (s .args .s)))
+answer : (s : tie.Start) (r : Bool) → r ≡ formed (storedOf (s .args .s)) → (r ≡ formed (storedOf (s .args .s))) × (r ≡ true → Holds (storedOf (s .args .s)))
 answer s r e = (e, λ t. formed-held (storedOf (s .args .s)) typed (sym e ∙ t))
   where
     typed : Typed (storedOf (s .args .s))
     typed =
         record {
-          cells = lengths s .0;
+          cells = length-from (s .args .s .g .start) (s .args .s .g .s) ∙ lengths s .0;
           keys = lengths s .1;
           tags = lengths s .2;
           rems = lengths s .3;

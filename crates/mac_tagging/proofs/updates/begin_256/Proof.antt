@@ -1,8 +1,8 @@
 -- `tagging::updates::begin_256` meets its contract: it begins with fresh words as the tag.
 use mathlib.Core.Path.{ap, _∙_, subst, sym}
 use borrow.Author.Needs.{needs}
-use Rattle.standard.proofs.Generator.{Sound, sound-after}
-use Rattle.zuc.specs.Reading.{stateOf}
+use Rattle.standard.proofs.Held.{Ready, ready-moved}
+use Rattle.zuc.specs.Reading.{heldOf}
 use Rattle.mac_registers.specs.Stored.{packed, tagOf, tagWords}
 use Rattle.mac_registers.specs.Inner.{Words, fresh, wordsOf}
 use Rattle.mac_registers.proofs.Packed.{tag-back}
@@ -20,7 +20,7 @@ begin-requires c κs =
       (
         s .pre .1 .0,
         (
-          subst (λ (x : Words). Sound (x .state)) (sym (d .draw-words .ensures)) (sound-after _ (stateOf (s .args .g)) (s .pre .1 .1 .0)),
+          subst (λ (x : Words). Ready (x .state)) (sym (d .draw-words .ensures)) (ready-moved _ (heldOf (s .args .g)) (s .pre .1 .1 .0)),
           (
             s .pre .1 .1 .1,
             ap (λ (x : Words). x .words) (d .draw-words .ensures)
@@ -34,7 +34,7 @@ returns : tie.Need-returns
 returns c =
     let d = c .before .before .before in
     let s = d .before in
-    c .begin .ensures ∙ ap (packed (s .args .width)) (begun-256 (s .pre .1 .1 .1) (stateOf (s .args .g)) (wordsOf (d .draw-words .result)) (d .draw-words .ensures))
+    c .begin .ensures ∙ ap (packed (s .args .width)) (begun-256 (s .pre .1 .1 .1) (heldOf (s .args .g)) (wordsOf (d .draw-words .result)) (d .draw-words .ensures))
 
 pub begin-256-spec : {M : Type 1} → statement M
 begin-256-spec = tie.close (tie.spec (λ c κs. search needs) begin-requires returns)

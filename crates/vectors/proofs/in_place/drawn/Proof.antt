@@ -42,7 +42,7 @@ use Rattle.keystream.specs.declared.DrawAnswer.{DrawAnswer}
 use Rattle.keystream.specs.declared.Drew.{Drew}
 use Rattle.keystream.specs.Draws.{drawOutcome, drawTold}
 use Rattle.zuc.specs.declared.Zuc.{Zuc}
-use Rattle.zuc.specs.Reading.{stateOf}
+use Rattle.zuc.specs.Reading.{heldOf}
 use Rattle.zuc.proofs.Zuc as T
 use Rattle.zuc.proofs.Zuc.Laws as T′
 use Rattle.keystream.proofs.Drew as D
@@ -66,7 +66,7 @@ abbrev answered : DrawAnswer → Val
 answered = EL.val E.the-type E′.the-laws
 
 abbrev Right : Zuc → Drew → Type 0
-Right z r = drawTold r ≡ drawOutcome (stateOf z)
+Right z r = drawTold r ≡ drawOutcome (heldOf z)
 
 -- what is returned
 abbrev both : Zuc → DrawAnswer → Drew
