@@ -1,0 +1,340 @@
+/*
+ * calls FUNCTION accepted|refused [ADDRESS LENGTH].. calls a function of include/zuc.h with
+ * all that is secret marked as undefined, for memcheck to say where a branch or an address
+ * depends on it. tests/timing/run runs this and reads what memcheck says.
+ *
+ * Secret are keys, messages and buffers, and of a lent state the places, R1, R2, the key
+ * pair, the tag and the waiting bytes. Public are all lengths and widths, the count of the
+ * waiting bytes, the start index, IV, COUNT, BEARER and DIRECTION, and all of a guard's.
+ *
+ * `accepted` lends states as starts give them. `refused` lends the same with one cell
+ * spoilt, each in its turn, so that each call ends by refusal 4; and the cells alone are
+ * secret.
+ *
+ * The boxes, at the addresses given, are marked too: memcheck takes what is read at a secret
+ * place of a known table to be known, and so R1 and R2 would come out known.
+ * Exit status: 0 every call answered as it should and left R1 and R2 secret, 1 one did not,
+ * 2 bad usage.
+ */
+#include "zuc.h"
+
+#include <stdlib.h>
+#include <string.h>
+#include <valgrind/memcheck.h>
+
+/* Cells to spoil, and the two ways: 0, and 2147483648 or more. */
+enum { NONE = -1, SPOILT = 32 };
+
+static int spoilt = NONE, wrong;
+
+static uint8_t key[32], iv[23], data[600];
+static uint32_t state[ZUC_STATE_WORDS], out[150], word;
+static uint64_t tag_state[ZUC_TAG_WORDS], tag[2];
+static size_t count;
+
+static uint32_t random_word(void)
+{
+    static uint64_t seed = 1;
+
+    seed = seed * 6364136223846793005u + 1442695040888963407u;
+    return (uint32_t)(seed >> 32);
+}
+
+static void secret(void *bytes, size_t n)
+{
+    (void)VALGRIND_MAKE_MEM_UNDEFINED(bytes, n);
+}
+
+/* What is secret beside the cells. */
+static void secret_too(void *bytes, size_t n)
+{
+    if (spoilt == NONE)
+        secret(bytes, n);
+}
+
+/* Random bits in the place of the first `bits` of a list of numbers, highest first. */
+static void scatter(uint64_t *numbers, size_t bits)
+{
+    size_t i;
+
+    for (i = 0; i < bits; i++)
+        numbers[i / 64] |= (uint64_t)(random_word() >> 31) << (63 - i % 64);
+}
+
+/* A call has answered; that is looked at once it is known. */
+static void answered(uint32_t number)
+{
+    volatile uint32_t known = number;
+
+    (void)VALGRIND_MAKE_MEM_DEFINED(&known, sizeof known);
+    wrong |= known != (spoilt == NONE ? 0 : ZUC_BAD_STATE);
+}
+
+/* The same of a call that leaves R1 and R2 in 8 bytes: they must be secret as before. */
+static void answered_with(uint32_t number, void *registers)
+{
+    uint64_t bits = 0;
+
+    answered(number);
+    (void)VALGRIND_GET_VBITS(registers, &bits, sizeof bits);
+    wrong |= bits != (spoilt == NONE ? UINT64_MAX : 0);
+}
+
+/* A cell within its bounds, or the one that is to be spoilt without them. */
+static uint32_t cell(int place)
+{
+    if (place != spoilt / 2 || spoilt == NONE)
+        return 1 + random_word() % 2147483647u;
+    return spoilt % 2 == 0 ? 0 : 0x80000000u | random_word();
+}
+
+/* A generator's state: the places and the registers are secret, the index is not. */
+static uint32_t *lent(size_t index)
+{
+    int i;
+
+    for (i = 0; i < 18; i++)
+        state[i] = i < 16 ? cell(i) : random_word();
+    state[18] = (uint32_t)index;
+    secret(state, 16 * sizeof *state);
+    secret_too(&state[16], 2 * sizeof *state);
+    return state;
+}
+
+/* The first bytes of a list of numbers: in each the highest first, which comes last in memory. */
+static void secret_bytes(uint64_t *numbers, size_t n)
+{
+    for (; n >= 8; n -= 8)
+        secret_too(numbers++, 8);
+    secret_too((uint8_t *)numbers + 8 - n, n);
+}
+
+/* A tag's state. What its width and its count leave unused is zero in every state. */
+static uint64_t *tag_lent(size_t width, size_t index, size_t waiting)
+{
+    size_t i;
+
+    memset(tag_state, 0, sizeof tag_state);
+    for (i = 0; i < 16; i++)
+        tag_state[i / 2] = tag_state[i / 2] << 32 | cell((int)i);
+    scatter(&tag_state[8], 64);
+    tag_state[9] = index;
+    scatter(&tag_state[10], 16 * width);
+    scatter(&tag_state[14], 8 * width);
+    if (width == 4)
+        tag_state[14] >>= 32;
+    scatter(&tag_state[16], 8 * waiting);
+    tag_state[18] = waiting;
+    tag_state[19] = width;
+
+    secret(tag_state, 8 * sizeof *tag_state);
+    secret_bytes(&tag_state[8], 8);
+    secret_bytes(&tag_state[10], 2 * width);
+    if (width == 4)
+        secret_too(&tag_state[14], 4);
+    else
+        secret_bytes(&tag_state[14], width);
+    secret_bytes(&tag_state[16], waiting);
+    return tag_state;
+}
+
+static void call_zuc128_start(void)
+{
+    answered_with(zuc128_start(state, key, 16, iv, 16), &state[16]);
+}
+
+static void call_zuc256_start(void)
+{
+    answered_with(zuc256_start(state, key, 32, iv, 23), &state[16]);
+}
+
+static void call_eea3_start(void)
+{
+    answered_with(eea3_start(state, 7, 5, 1, key, 16), &state[16]);
+}
+
+static void call_zuc_draw(void)
+{
+    size_t i;
+
+    for (i = 0; i < 16; i++)
+        answered_with(zuc_draw(lent(i), &word), &state[16]);
+}
+
+/* From every index, up to more words than the library draws in one run, which is 64. */
+static void call_zuc_words(void)
+{
+    size_t i, n;
+
+    for (i = 0; i < 16; i++)
+        for (n = 0; n <= 150; n += 1 + n / 8)
+            answered_with(zuc_words(lent(i), out, n), &state[16]);
+}
+
+static void masks(__typeof__(zuc_mask_crate) *mask)
+{
+    size_t i, len, less;
+
+    for (i = 0; i < 16; i++)
+        for (len = 0; len <= sizeof data; len += 1 + len / 8)
+            for (less = 0; less <= 8 * len && less < 100; less += 11 + less)
+                answered_with(mask(lent(i), data, len, 8 * len - less, &count), &state[16]);
+}
+
+static void call_zuc_mask_crate(void)
+{
+    masks(zuc_mask_crate);
+}
+
+static void call_zuc_mask_clean(void)
+{
+    masks(zuc_mask_clean);
+}
+
+static void call_zuc128_tag_start(void)
+{
+    answered_with(zuc128_tag_start(tag_state, key, 16, iv, 16), &tag_state[8]);
+}
+
+static void call_eia3_tag_start(void)
+{
+    answered_with(eia3_tag_start(tag_state, 7, 5, 1, key, 16), &tag_state[8]);
+}
+
+static void call_zuc256_tag_start(void)
+{
+    size_t width;
+
+    for (width = 4; width <= 16; width *= 2)
+        answered_with(zuc256_tag_start(tag_state, width, key, 32, iv, 23), &tag_state[8]);
+}
+
+/* Updates of states up to a width, with any number of bytes waiting. */
+static void updates(__typeof__(zuc128_tag_update) *update, size_t widest)
+{
+    size_t width, waiting, len, i = 0;
+
+    for (width = 4; width <= widest; width *= 2)
+        for (waiting = 0; waiting < width; waiting++)
+            for (len = 0; len <= sizeof data; len += 1 + len / 6)
+                answered_with(update(tag_lent(width, i++ % 16, waiting), data, len), &tag_state[8]);
+}
+
+static void finishes(__typeof__(zuc128_tag_finish) *finish, size_t widest)
+{
+    size_t width, waiting, bits, i = 0;
+
+    for (width = 4; width <= widest; width *= 2)
+        for (waiting = 0; waiting < width; waiting++)
+            for (bits = 0; bits <= 8 * sizeof data; bits += 1 + bits / 3)
+                answered(finish(tag_lent(width, i++ % 16, waiting), data, sizeof data, bits, tag));
+}
+
+static void call_zuc128_tag_update(void)
+{
+    updates(zuc128_tag_update, 4);
+}
+
+static void call_zuc256_tag_update(void)
+{
+    updates(zuc256_tag_update, 16);
+}
+
+static void call_zuc128_tag_finish(void)
+{
+    finishes(zuc128_tag_finish, 4);
+}
+
+static void call_zuc256_tag_finish(void)
+{
+    finishes(zuc256_tag_finish, 16);
+}
+
+static void call_zuc128_tag(void)
+{
+    size_t bits;
+
+    for (bits = 0; bits <= 8 * sizeof data; bits += 1 + bits / 8)
+        answered(zuc128_tag(key, 16, iv, 16, data, sizeof data, bits, tag));
+}
+
+static void call_eia3_tag(void)
+{
+    size_t bits;
+
+    for (bits = 0; bits <= 8 * sizeof data; bits += 1 + bits / 8)
+        answered(eia3_tag(7, 5, 1, key, 16, data, sizeof data, bits, tag));
+}
+
+static void call_zuc256_tag(void)
+{
+    size_t width, bits;
+
+    for (width = 4; width <= 16; width *= 2)
+        for (bits = 0; bits <= 8 * sizeof data; bits += 1 + bits / 8)
+            answered(zuc256_tag(width, key, 32, iv, 23, data, sizeof data, bits, tag));
+}
+
+/* Nothing that a guard is lent is secret: COUNT goes openly, and a link tells of counts. */
+static void call_zuc_guard_accept(void)
+{
+    struct zuc_link links[2] = {{0, 0}, {0, 0}};
+
+    answered(zuc_guard_accept(links, 2, 1, 7));
+    answered(zuc_guard_accept(links, 2, 1, 5));
+}
+
+static void call_zuc_guard_rekey(void)
+{
+    struct zuc_link links[2] = {{0, 0}, {0, 0}};
+
+    answered(zuc_guard_rekey(links, 2, 1));
+}
+
+/* What must be found, or nothing would be: a branch, and a look-up. */
+static void call_a_branch(void)
+{
+    if (*(volatile uint8_t *)key & 1)
+        count++;
+}
+
+static void call_a_look_up(void)
+{
+    static volatile uint8_t table[256];
+
+    word = table[*(volatile uint8_t *)key];
+}
+
+#define ROW(name) {#name, call_##name}
+static const struct {
+    const char *name;
+    void (*call)(void);
+} rows[] = {
+    ROW(zuc128_start), ROW(zuc256_start), ROW(eea3_start), ROW(zuc_draw), ROW(zuc_words),
+    ROW(zuc_mask_crate), ROW(zuc_mask_clean), ROW(zuc128_tag_start), ROW(eia3_tag_start),
+    ROW(zuc256_tag_start), ROW(zuc128_tag_update), ROW(zuc256_tag_update),
+    ROW(zuc128_tag_finish), ROW(zuc256_tag_finish), ROW(zuc128_tag), ROW(eia3_tag),
+    ROW(zuc256_tag), ROW(zuc_guard_accept), ROW(zuc_guard_rekey), ROW(a_branch), ROW(a_look_up),
+};
+
+int main(int argc, char **argv)
+{
+    size_t i = 0;
+    int arg;
+
+    while (argc > 2 && i < sizeof rows / sizeof *rows && strcmp(argv[1], rows[i].name) != 0)
+        i++;
+    if (argc <= 2 || i == sizeof rows / sizeof *rows)
+        return 2;
+    if (strcmp(argv[2], "refused") == 0) {
+        for (spoilt = 0; spoilt < SPOILT; spoilt++)
+            rows[i].call();
+        return wrong;
+    }
+    secret(key, sizeof key);
+    secret(data, sizeof data);
+    for (arg = 3; arg + 1 < argc; arg += 2)
+        secret((void *)(uintptr_t)strtoull(argv[arg], NULL, 0), strtoull(argv[arg + 1], NULL, 0));
+    rows[i].call();
+    return wrong;
+}
