@@ -3,16 +3,17 @@
 use mathlib.Core.Bool.{Bool, true, false, _&&_}
 use mathlib.Core.List.{List, [], _∷_}
 use mathlib.Core.Path.{_≡_, refl, sym, ap, _∙_, subst}
-use Prim.Native.Nat.{ℕ, zero, suc}
+use Prim.Native.Nat.{ℕ, zero, suc, _+_}
 use borrow.Author.Tests.{lt-ltb}
+use lib.Dec.{leb}
 use lib.ListN.{length}
 use Rattle.standard.specs.Generator.{F, LFSRWithWorkMode, after, next, workStep}
 use Rattle.standard.specs.Notation.{if_then_else_}
 use Rattle.standard.specs.Refusals.{Test, tested}
-use Rattle.standard.specs.States.{Held, heldFormed, moved, wellFormed}
+use Rattle.standard.specs.States.{Counted, Held, drawnOn, generatorFormed, heldFormed, limit, moved, wellFormed}
 use Rattle.standard.proofs.Held.{moved-meaning, start-lt}
 use Rattle.zuc.proofs.Turning.{shifted-long}
-use Rattle.alike.specs.Alike.{Alike}
+use Rattle.alike.specs.Alike.{Alike, AlikeGenerator}
 
 -- a draw keeps the number of cells
 full-moved : (n : ℕ) (h : Held) → length (h .meaning .cells) ≡ 16 → length (moved n h .meaning .cells) ≡ 16
@@ -33,6 +34,15 @@ module _ {h k : Held} (e : Alike h k) where
   pub alike-formed : heldFormed h ≡ heldFormed k
   unfolding heldFormed
   alike-formed = λ i. wellFormed (e .meaning i .cells) && (lt-ltb (h .start) 16 (e .start) ∙ sym (lt-ltb (k .start) 16 (e .start′))) i
+
+-- and so of generators, which count their words
+module _ {g k : Counted Held} (e : AlikeGenerator g k) where
+  pub alike-drawn : (n : ℕ) → AlikeGenerator (drawnOn n g) (drawnOn n k)
+  alike-drawn n = record { held = alike-moved (e .held) n; count = ap (λ (c : ℕ). c + n) (e .count) }
+
+  pub alike-generatorFormed : generatorFormed g ≡ generatorFormed k
+  unfolding generatorFormed
+  alike-generatorFormed = λ i. alike-formed (e .held) i && leb (e .count i) limit
 
 -- a case by equal tests
 pub if-related : {A : Type 0} (Like : A → A → Type 0) (b : Bool) {c : Bool} → b ≡ c → {x x′ y y′ : A} → Like x x′ → Like y y′

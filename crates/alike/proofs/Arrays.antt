@@ -11,7 +11,7 @@ use lib.Seq.{getD-append-add, getD-at, getD-take, length-take-le}
 use Rattle.standard.specs.Bits.{bitAt, bitOf, window}
 use Rattle.standard.specs.Generator.{State}
 use Rattle.standard.specs.Notation.{_⟨_⟩, listed}
-use Rattle.standard.specs.States.{Held, Stored}
+use Rattle.standard.specs.States.{Counted, Held, Stored}
 use Rattle.standard.proofs.Listed.{getD-listed, is-listed}
 use Rattle.standard.proofs.Window.{window-ext}
 use Rattle.zuc.specs.Reading.{cellsFrom, placesOf}
@@ -19,17 +19,23 @@ use Rattle.zuc.proofs.Turning.{cell-at, length-from}
 use Rattle.capi_arrays.specs.Arrays.{arrayOf, heldFrom, heldIn, placed, regrouped, storedIn, tagArrayOf}
 use Rattle.capi_arrays.proofs.Packing.{array-held}
 use Rattle.capi_arrays.proofs.Regrouped.{bits-same, regrouped-length}
-use Rattle.alike.specs.Alike.{Alike, AlikeStored, turned}
+use Rattle.alike.specs.Alike.{AlikeGenerator, AlikeTag, turned}
 use Rattle.alike.proofs.Turned.{turn-cell, turn-long}
 
 -- a generator's array
-pub alike-array : {h k : Held} → Alike h k → Alike (heldIn (arrayOf h)) (heldIn (arrayOf k))
-alike-array {h} {k} e = subst₂ Alike (sym (array-held h (e .full))) (sym (array-held k (ap (λ (σ : State). length (σ .cells)) (sym (e .meaning)) ∙ e .full))) e
+pub alike-array : {g k : Counted Held} → AlikeGenerator g k → AlikeGenerator (heldIn (arrayOf g)) (heldIn (arrayOf k))
+alike-array {g} {k} e =
+    let full = ap (λ (σ : State). length (σ .cells)) (sym (e .held .meaning)) ∙ e .held .full in
+    subst₂ AlikeGenerator (sym (array-held g (e .held .full))) (sym (array-held k full)) e
 
 -- so all sixteen arrays of one state are one state
-pub array-turns-alike : (σ : State) → length (σ .cells) ≡ 16 → (i j : ℕ) → i < 16 → j < 16
-    → Alike (heldIn (arrayOf (record { meaning = σ; start = i }))) (heldIn (arrayOf (record { meaning = σ; start = j })))
-array-turns-alike σ full i j h l = alike-array (record { meaning = refl; full = full; start = h; start′ = l })
+abbrev counted : State → ℕ → ℕ → Counted Held
+counted σ count i = record { held = record { meaning = σ; start = i }; count = count }
+
+pub array-turns-alike : (σ : State) → length (σ .cells) ≡ 16 → (count i j : ℕ) → i < 16 → j < 16
+    → AlikeGenerator (heldIn (arrayOf (counted σ count i))) (heldIn (arrayOf (counted σ count j)))
+array-turns-alike σ full count i j h l =
+    alike-array {g = counted σ count i} {k = counted σ count j} (record { held = record { meaning = refl; full = full; start = h; start′ = l }; count = refl })
 
 -- numbers of 32 bits, two to a word and back, are those numbers with the low bits that they have room for
 low : ℕ → ℕ
@@ -95,33 +101,38 @@ module _ (h : Held) (full : length (h .meaning .cells) ≡ 16) (l : h .start < 1
         R₂ = (entry (placed h) 17 (lit< tt) ∙ ap low second) i;
       }
 
--- what stands behind the generator and its index
+-- what stands behind the generator, its index and the count
 abbrev behind : Stored → List ℕ
 behind s = s .key ++ (s .tag ++ (regrouped 8 64 2 (s .rem) ++ (s .cnt ∷ s .width ∷ [])))
 
 -- so the generators of two such arrays are alike, and the rest is the same
-module _ {s t : Stored} (e : AlikeStored s t) where
-  full′ : length (t .generator .meaning .cells) ≡ 16
-  full′ = ap (λ (σ : State). length (σ .cells)) (sym (e .generator .meaning)) ∙ e .generator .full
+module _ {s t : Counted Stored} (e : AlikeTag s t) where
+  full′ : length (t .held .generator .meaning .cells) ≡ 16
+  full′ = ap (λ (σ : State). length (σ .cells)) (sym (e .held .generator .meaning)) ∙ e .held .generator .full
 
-  same-behind : behind s ≡ behind t
-  same-behind = λ i. e .key i ++ (e .tag i ++ (regrouped 8 64 2 (e .rem i) ++ (e .cnt i ∷ e .width i ∷ [])))
+  same-behind : behind (s .held) ≡ behind (t .held)
+  same-behind = λ i. e .held .key i ++ (e .held .tag i ++ (regrouped 8 64 2 (e .held .rem i) ++ (e .held .cnt i ∷ e .held .width i ∷ [])))
 
-  pub alike-tag-array : AlikeStored (storedIn (tagArrayOf s)) (storedIn (tagArrayOf t))
+  pub alike-tag-array : AlikeTag (storedIn (tagArrayOf s)) (storedIn (tagArrayOf t))
   unfolding storedIn tagArrayOf heldFrom there-and-back regrouped listed lowered
   alike-tag-array =
-      let read = meaning-read (s .generator) (e .generator .full) (e .generator .start) in
+      let g = e .held .generator in
+      let read = meaning-read (s .held .generator) (g .full) (g .start) in
       record {
-        generator =
+        held =
             record {
-              meaning = read ∙ ap lowered (e .generator .meaning) ∙ sym (meaning-read (t .generator) full′ (e .generator .start′));
-              full = ap (λ (σ : State). length (σ .cells)) read;
-              start = e .generator .start;
-              start′ = e .generator .start′;
+              generator =
+                  record {
+                    meaning = read ∙ ap lowered (g .meaning) ∙ sym (meaning-read (t .held .generator) full′ (g .start′));
+                    full = ap (λ (σ : State). length (σ .cells)) read;
+                    start = g .start;
+                    start′ = g .start′;
+                  };
+              key = ap (take 4) same-behind;
+              tag = λ i. take 2 (drop 4 (same-behind i));
+              rem = λ i. regrouped 64 8 16 (take 2 (drop 6 (same-behind i)));
+              cnt = λ i. same-behind i ⟨ 8 ⟩;
+              width = λ i. same-behind i ⟨ 9 ⟩;
             };
-        key = ap (take 4) same-behind;
-        tag = λ i. take 2 (drop 4 (same-behind i));
-        rem = λ i. regrouped 64 8 16 (take 2 (drop 6 (same-behind i)));
-        cnt = λ i. same-behind i ⟨ 8 ⟩;
-        width = λ i. same-behind i ⟨ 9 ⟩;
+        count = e .count;
       }

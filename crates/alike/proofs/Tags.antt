@@ -1,19 +1,20 @@
 -- The running rule of tags over alike generators: parts of it depend on what a generator means alone, so alike states of tags stay alike under
 -- every update, and close to one tag. By induction on the message's bytes.
-use mathlib.Core.Bool.{_&&_}
+use mathlib.Core.Bool.{Bool, _&&_}
 use mathlib.Core.List.{List, [], _∷_, _++_}
 use mathlib.Core.Path.{_≡_, _∙_, ap, subst}
 use Prim.Native.Nat.{ℕ, suc, _+_, _-_, _*_, _/_, _%_, _^_}
-use lib.Dec.{eqb, ltb}
+use lib.Dec.{eqb, leb, ltb}
 use lib.ListN.{drop, length, replicate, take}
 use Rattle.standard.specs.Bits.{M, bitOf, window, z}
 use Rattle.standard.specs.Generator.{word, wordAt}
-use Rattle.standard.specs.Integrity.{T, isWidth}
+use Rattle.standard.specs.Integrity.{T, isWidth, wordsToClose-EIA3, wordsToClose-ZUC256, wordsToUpdate}
 use Rattle.standard.specs.Notation.{_⊕_, if_then_else_}
-use Rattle.standard.specs.States.{Stored, allZero, formed, formed-128, unused}
+use Rattle.standard.specs.States.{Counted, Stored, allZero, formed, formed-128, limit, tagFormed, unused}
+use Rattle.mac.specs.Calls.{closeWords-128, closeWords-256, takenIn, updateWords}
 use Rattle.mac_registers.specs.Stored.{keyOf, keyWords, packed, tagOf, tagWords, taggingOf}
 use Rattle.mac_registers.specs.Tagging.{Tagging, absorbed, closed-EIA3, closed-ZUC256, ended, extraWord, fed, lastTag, leftOver, updated}
-use Rattle.alike.specs.Alike.{Alike, AlikeStored}
+use Rattle.alike.specs.Alike.{Alike, AlikeStored, AlikeTag}
 use Rattle.alike.proofs.Alike.{alike-formed, alike-moved, if-related}
 
 -- tags in the making: their generators are alike, and all else is equal
@@ -90,7 +91,7 @@ module _ (t : ℕ) {st st′ : Tagging} (e : AlikeTagging st st′) (tail : List
       λ i.
       if eqb (length (alike-ended .waiting i) * 8 + l % 8) 0 then alike-ended .key i % 2 ^ 32 else word (alike-ended .generator .meaning i)
 
--- of a state of tags: the tests, an update, and the tags
+-- of a state of tags: the tests, an update, the tags, and the words that they draw
 module _ {s t : Stored} (e : AlikeStored s t) where
   pub same-formed : formed s ≡ formed t
   unfolding formed
@@ -118,3 +119,21 @@ module _ {s t : Stored} (e : AlikeStored s t) where
   same-tag-256 tail l =
       ap (tagWords (s .width)) (same-closed (s .width * 8) (alike-tagging e) tail l)
       ∙ ap (λ (w : ℕ). tagWords w (closed-ZUC256 (w * 8) (taggingOf t) tail l)) (e .width)
+
+  pub same-updateWords : (message : List ℕ) → updateWords s message ≡ updateWords t message
+  same-updateWords message = λ i. wordsToUpdate (e .width i * 8) (e .cnt i) (length message)
+
+  pub same-closeWords-128 : (l : ℕ) → closeWords-128 s l ≡ closeWords-128 t l
+  same-closeWords-128 l = λ i. wordsToClose-EIA3 (e .cnt i) l
+
+  pub same-closeWords-256 : (l : ℕ) → closeWords-256 s l ≡ closeWords-256 t l
+  same-closeWords-256 l = λ i. wordsToClose-ZUC256 (e .width i * 8) (e .cnt i) l
+
+-- and with its count
+module _ {s t : Counted Stored} (e : AlikeTag s t) where
+  pub same-tagFormed : (test : Stored → Bool) → test (s .held) ≡ test (t .held) → tagFormed test s ≡ tagFormed test t
+  unfolding tagFormed
+  same-tagFormed test f = λ i. f i && leb (e .count i) limit
+
+  pub alike-takenIn : (message : List ℕ) → AlikeTag (takenIn s message) (takenIn t message)
+  alike-takenIn message = record { held = alike-after (e .held) message; count = λ i. e .count i + same-updateWords (e .held) message i }

@@ -7,10 +7,10 @@ use borrow.Author.Tests.{le-ltb, lt-ltb}
 use Rattle.standard.specs.Generator.{State}
 use Rattle.standard.specs.Notation.{_⟨_⟩}
 use Rattle.standard.specs.States.{Held, heldFormed, wellFormed}
-use Rattle.zuc.specs.Reading.{heldOf, placesOf}
+use Rattle.zuc.specs.Reading.{countedOf, heldOf}
 use Rattle.zuc.specs.declared.Zuc.{Zuc}
 use Rattle.zuc.proofs.Turning.{cell-at, cells-back, length-places, places-back}
-use Rattle.alike.specs.Alike.{Alike, turned}
+use Rattle.alike.specs.Alike.{Alike, AlikeGenerator, turned}
 
 -- a turn means the state that was turned
 pub turn-means : (i : ℕ) (σ : State) → heldOf (turned i σ) .meaning ≡ σ
@@ -33,6 +33,11 @@ turns-alike σ full i j h l =
       start = h;
       start′ = l;
     }
+
+-- with any count of words drawn, as the calls take them
+pub generator-turns-alike : (σ : State) → length (σ .cells) ≡ 16 → (count i j : ℕ) → i < 16 → j < 16
+    → AlikeGenerator (countedOf (record { z = turned i σ; count = count })) (countedOf (record { z = turned j σ; count = count }))
+generator-turns-alike σ full count i j h l = record { held = turns-alike σ full i j h l; count = refl }
 
 -- none of them is refused, where the state is well formed
 pub turns-formed : (σ : State) → wellFormed (σ .cells) ≡ true → (i : ℕ) → i < 16 → heldFormed (heldOf (turned i σ)) ≡ true

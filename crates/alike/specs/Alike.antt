@@ -1,9 +1,9 @@
--- Request 2026-08: when two states are equal in meaning, and the turns of one state.
+-- Requests 2026-08 and 2026-09: when two states are equal in meaning, and the turns of one state.
 use mathlib.Core.Path.{_≡_}
 use Prim.Native.Nat.{ℕ, _<_}
 use lib.ListN.{length}
 use Rattle.standard.specs.Generator.{State}
-use Rattle.standard.specs.States.{Held, Stored}
+use Rattle.standard.specs.States.{Counted, Held, Stored}
 use Rattle.zuc.specs.Reading.{placesOf}
 use Rattle.zuc.specs.declared.Zuc.{Zuc}
 
@@ -23,6 +23,18 @@ pub record AlikeStored (s t : Stored) : Type 0 where
   pub rem : s .rem ≡ t .rem
   pub cnt : s .cnt ≡ t .cnt
   pub width : s .width ≡ t .width
+
+-- Request 2026-09: a state carries how many words its start has drawn. What two hold is alike, and they have drawn as many
+pub record AlikeCounted {A : Type 0} (Like : A → A → Type 0) (g k : Counted A) : Type 0 where
+  pub held : Like (g .held) (k .held)
+  pub count : g .count ≡ k .count
+
+-- of generators, and of tags
+abbrev pub AlikeGenerator : Counted Held → Counted Held → Type 0
+AlikeGenerator = AlikeCounted Alike
+
+abbrev pub AlikeTag : Counted Stored → Counted Stored → Type 0
+AlikeTag = AlikeCounted AlikeStored
 
 -- one state, turned so that its cells start at place i: as the struct of the code
 abbrev pub turned : ℕ → State → Zuc

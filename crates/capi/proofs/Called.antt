@@ -10,7 +10,7 @@ use Rattle.guard.specs.Runs.{Accept, Call, Calls, Rekey, accept, rekey}
 use Rattle.mac.specs.Calls.{finishOutcome-128, finishOutcome-256, onceOutcome-128, onceOutcome-256, onceOutcome-EIA3, startOutcome-128, startOutcome-256, startOutcome-EIA3, updateOutcome}
 use Rattle.standard.proofs.Promise.{Says}
 use Rattle.standard.specs.Guard.{Link}
-use Rattle.standard.specs.States.{formed, formed-128}
+use Rattle.standard.specs.States.{formed, formed-128, tagFormed}
 use Rattle.capi.proofs.Tight.{guard-accept-post, guard-rekey-post}
 use Rattle.capi.proofs.tags.zuc128_tag_start.Reads as zuc128-tag-start
 use Rattle.capi.proofs.tags.eia3_tag_start.Reads as eia3-tag-start
@@ -36,11 +36,11 @@ pub called-zuc256-tag-start : Says zuc256-tag-start.Post
 called-zuc256-tag-start κs a r s p = p
 
 pub called-zuc128-tag-update : Says zuc128-tag-update.Post
-    (λ κs a r s. record { number = r; array = now (s .0) } ≡ tagArray (updateOutcome (formed-128 (storedIn (now (a .0)))) (storedIn (now (a .0))) (now (a .1 .0))))
+    (λ κs a r s. record { number = r; array = now (s .0) } ≡ tagArray (updateOutcome (tagFormed formed-128 (storedIn (now (a .0)))) (storedIn (now (a .0))) (now (a .1 .0))))
 called-zuc128-tag-update κs a r s p = p
 
 pub called-zuc256-tag-update : Says zuc256-tag-update.Post
-    (λ κs a r s. record { number = r; array = now (s .0) } ≡ tagArray (updateOutcome (formed (storedIn (now (a .0)))) (storedIn (now (a .0))) (now (a .1 .0))))
+    (λ κs a r s. record { number = r; array = now (s .0) } ≡ tagArray (updateOutcome (tagFormed formed (storedIn (now (a .0)))) (storedIn (now (a .0))) (now (a .1 .0))))
 called-zuc256-tag-update κs a r s p = p
 
 pub called-zuc128-tag-finish : Says zuc128-tag-finish.Post

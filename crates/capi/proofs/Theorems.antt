@@ -1,11 +1,12 @@
 -- The rule and demand 3 for the exported functions, however a message was cut, and for their one-shots: mac's theorems, by Runs.antt.
-use mathlib.Core.List.{List}
+use mathlib.Core.List.{List, _++_}
+use mathlib.Core.Logic.{_↔_}
 use mathlib.Core.Path.{_≡_, refl, sym, ap, _∙_, subst}
 use Prim.Native.Nat.{ℕ, _*_, _<_}
 use lib.Dec.{lit<}
 use Rattle.capi_arrays.proofs.Fitting.{small-EIA3, small-ZUC256}
-use Rattle.capi.proofs.Runs.{Holds, inside, outside}
-use Rattle.capi.specs.Runs.{ArrayTagged-128, ArrayTagged-256, TwoComputed-128, TwoComputed-EIA3, firstWord}
+use Rattle.capi.proofs.Runs.{Holds, accepts-alike, inside, outside}
+use Rattle.capi.specs.Runs.{ArrayAccepts-128, ArrayAccepts-256, ArrayTagged-128, ArrayTagged-256, TwoComputed-128, TwoComputed-EIA3, firstWord}
 use Rattle.capi.specs.Tags.{TagArray, tagArray, twoOnce}
 use Rattle.mac.proofs.Accepted.{row-of}
 use Rattle.mac.proofs.Cuttings.{iv-bytes}
@@ -14,7 +15,7 @@ use Rattle.mac.proofs.Outcomes.{begun-EIA3-is}
 use Rattle.mac.proofs.Runs.{start-128, start-256}
 use Rattle.mac.proofs.Theorems.{differ-zuc128, differ-zuc256, rule-zuc128, rule-zuc256, xor-zuc128, xor-zuc256}
 use Rattle.mac.specs.Calls.{Once, Outcome, startOutcome-128, startOutcome-256, startOutcome-EIA3}
-use Rattle.mac.specs.Runs.{Computed, Computed-256, Tagged-128, Tagged-256}
+use Rattle.mac.specs.Runs.{Accepts-128, Accepts-256, Computed, Computed-256, Tagged-128, Tagged-256, joined}
 use Rattle.mac_registers.proofs.Packed.{good-EIA3, good-ZUC256}
 use Rattle.mac_registers.specs.Tagging.{begun-EIA3, begun-ZUC256}
 use Rattle.standard.proofs.Generator.{sound-started}
@@ -23,7 +24,7 @@ use Rattle.standard.specs.Generator.{State, keystream, started}
 use Rattle.standard.specs.Integrity.{IV-EIA3, T, tag-EIA3, tag-ZUC256}
 use Rattle.standard.specs.Loading.{load₁₂₈, load₂₅₆, rowOf}
 use Rattle.standard.specs.Notation.{_⊕_}
-use Rattle.standard.specs.States.{fromZero}
+use Rattle.standard.specs.States.{Counted, Stored, fromZero}
 use Rattle.zuc_loading.proofs.Loaded.{Bytes, cells-128, cells-256}
 
 -- a one-shot's tag of two words is the inner one-shot's
@@ -48,7 +49,7 @@ module _ (key iv : List ℕ) (hk : Bytes key) (hv : Bytes iv) where
         st = begun-EIA3 (fromZero (started loaded));
         good = good-EIA3 (fromZero (started loaded)) (record { cells = sound-started loaded (cells-128 key iv hk hv); start = lit< tt });
         small = small-EIA3 loaded;
-        packs = start-128 key iv begun-128 refl e;
+        packs = ap (λ (c : Counted Stored). c .held) (start-128 key iv begun-128 refl e);
       }
 
   -- what the inner calls accept, the C calls accept, cut alike, and give the same tag
@@ -56,9 +57,14 @@ module _ (key iv : List ℕ) (hk : Bytes key) (hv : Bytes iv) where
       → (a : ArrayTagged-128 (tagArray begun-128) m L t) × ((a .parts ≡ r .parts) × (a .tail ≡ r .tail) × (a .l ≡ r .l))
   accepted-c-zuc128 = outside (λ s tail l. refl) (λ s tail l. refl) begun-128 held-128
 
+  -- a cutting is accepted by the C calls exactly if the inner calls accept it
+  pub accepts-c-zuc128 : (parts : List (List ℕ)) (tail : List ℕ) (l : ℕ) → Bytes (joined parts ++ tail)
+      → ArrayAccepts-128 (tagArray begun-128) parts tail l ↔ Accepts-128 begun-128 parts tail l
+  accepts-c-zuc128 = accepts-alike (λ s tail l. refl) (λ s tail l. refl) begun-128 held-128
+
   module _ (start : TagArray) (told : start ≡ tagArray begun-128) where
     inside-128 : {m : List ℕ} {L t : ℕ} → ArrayTagged-128 start m L t → Tagged-128 begun-128 m L t
-    inside-128 = inside (λ s tail l. refl) (λ s tail l. refl) begun-128 held-128 start told
+    inside-128 r = inside (λ s tail l. refl) (λ s tail l. refl) begun-128 held-128 start told r .0
 
     pub rule-c-zuc128 : {m : List ℕ} {L t : ℕ} → ArrayTagged-128 start m L t → t ≡ tag-EIA3 (keystream (load₁₂₈ key iv)) m L
     rule-c-zuc128 r = rule-zuc128 key iv begun-128 refl (inside-128 r)
@@ -153,16 +159,20 @@ module _ (w : ℕ) (key iv : List ℕ) (hk : Bytes key) (hv : Bytes iv) where
             good-ZUC256 (is .0) (fromZero (started loaded-256))
             (record { cells = sound-started loaded-256 (cells-256 (rowOf w) key iv (row-of w) hk hv); start = lit< tt });
         small = small-ZUC256 (w * 8) loaded-256;
-        packs = is .1;
+        packs = ap (λ (c : Counted Stored). c .held) (is .1);
       }
 
   pub accepted-c-zuc256 : {m : List ℕ} {L t : ℕ} → Bytes m → (r : Tagged-256 w begun-256 m L t)
       → (a : ArrayTagged-256 w (tagArray begun-256) m L t) × ((a .parts ≡ r .parts) × (a .tail ≡ r .tail) × (a .l ≡ r .l))
   accepted-c-zuc256 = outside (λ s tail l. refl) (λ s tail l. refl) begun-256 held-256
 
+  pub accepts-c-zuc256 : (parts : List (List ℕ)) (tail : List ℕ) (l : ℕ) → Bytes (joined parts ++ tail)
+      → ArrayAccepts-256 w (tagArray begun-256) parts tail l ↔ Accepts-256 w begun-256 parts tail l
+  accepts-c-zuc256 = accepts-alike (λ s tail l. refl) (λ s tail l. refl) begun-256 held-256
+
   module _ (start : TagArray) (told : start ≡ tagArray begun-256) where
     inside-256 : {m : List ℕ} {L t : ℕ} → ArrayTagged-256 w start m L t → Tagged-256 w begun-256 m L t
-    inside-256 = inside (λ s tail l. refl) (λ s tail l. refl) begun-256 held-256 start told
+    inside-256 r = inside (λ s tail l. refl) (λ s tail l. refl) begun-256 held-256 start told r .0
 
     pub rule-c-zuc256 : {m : List ℕ} {L t : ℕ} → ArrayTagged-256 w start m L t → t ≡ tag-ZUC256 (w * 8) (keystream loaded-256) m L
     rule-c-zuc256 r = rule-zuc256 w key iv begun-256 refl (inside-256 r)

@@ -10,18 +10,18 @@ use Rattle.mac.specs.Calls.{Closing, finishOutcome-128, finishOutcome-256, once
 use Rattle.mac.specs.Runs.{Computed, joined}
 use Rattle.mac_registers.specs.Stored.{tagOf}
 use Rattle.standard.specs.Notation.{_⟨_⟩}
-use Rattle.standard.specs.States.{Stored, formed, formed-128}
+use Rattle.standard.specs.States.{Counted, Stored, formed, formed-128, tagFormed}
 use Rattle.zuc_loading.proofs.Loaded.{Bytes}
 
 -- updates one after the other, each accepted: the next one is lent the array that this one left
 pub data ArrayUpdates (test : Stored → Bool) : List ℕ → List (List ℕ) → List ℕ → Type 0 where
   none : {a : List ℕ} → ArrayUpdates test a [] a
-  more : {a a′ part : List ℕ} {parts : List (List ℕ)} (o : TagArray) → o ≡ tagArray (updateOutcome (test (storedIn a)) (storedIn a) part) → o .number ≡ 0
+  more : {a a′ part : List ℕ} {parts : List (List ℕ)} (o : TagArray) → o ≡ tagArray (updateOutcome (tagFormed test (storedIn a)) (storedIn a) part) → o .number ≡ 0
       → ArrayUpdates test (o .array) parts a′ → ArrayUpdates test a (part ∷ parts) a′
 
 -- a tag of a message of L bits, from a start's array; by the test of states, the closing, and the number in the two words of a tag.
 -- What is lent as uint8_t is bytes
-pub record ArrayTagged (test : Stored → Bool) (finishOutcome : Stored → List ℕ → ℕ → Closing (List ℕ)) (numberIn : List ℕ → ℕ) (start : TagArray) (message : List ℕ)
+pub record ArrayTagged (test : Stored → Bool) (finishOutcome : Counted Stored → List ℕ → ℕ → Closing (List ℕ)) (numberIn : List ℕ → ℕ) (start : TagArray) (message : List ℕ)
     (L tag : ℕ) : Type 0 where
   pub parts : List (List ℕ)
   pub tail : List ℕ
@@ -49,7 +49,7 @@ abbrev pub ArrayTagged-256 : ℕ → TagArray → List ℕ → ℕ → ℕ → T
 ArrayTagged-256 width = ArrayTagged formed finishOutcome-256 (tagOf width)
 
 -- that a start's calls are accepted over these very parts, this tail and these bits of it, and give some tag
-abbrev pub ArrayAccepts : (Stored → Bool) → (Stored → List ℕ → ℕ → Closing (List ℕ)) → (List ℕ → ℕ) → TagArray → List (List ℕ) → List ℕ → ℕ → Type 0
+abbrev pub ArrayAccepts : (Stored → Bool) → (Counted Stored → List ℕ → ℕ → Closing (List ℕ)) → (List ℕ → ℕ) → TagArray → List (List ℕ) → List ℕ → ℕ → Type 0
 ArrayAccepts test finishOutcome numberIn start parts tail l =
     (tag : ℕ) × (r : ArrayTagged test finishOutcome numberIn start (joined parts ++ tail) (length (joined parts) * 8 + l) tag)
     × ((r .parts ≡ parts) × (r .tail ≡ tail) × (r .l ≡ l))

@@ -11,6 +11,7 @@ ghost use Rattle.mask.specs.Outcome.{cleanOutcome, crateOutcome, told};
 ghost use Rattle.standard.specs.Loading.{d-keystream};
 use capi_answers::ACCEPTED;
 use capi_answers::BAD_STATE;
+use capi_answers::SPENT;
 use capi_answers::fill_number;
 use capi_answers::mask_count;
 use capi_answers::mask_number;
@@ -18,13 +19,14 @@ use capi_answers::start_number;
 use capi_arrays::array_of;
 use capi_arrays::state_in;
 use capi_draw::draw_in;
+use capi_draw::has_word;
 use capi_draw::is_formed;
 use keystream::Start;
 use mask::Masked;
 
 // What a start hands back goes into the array: zeros, where it was refused.
-fn put_start(state: &mut [u32; 19], start: Start) -> u32
-    requires { ⌜ start .state .start < 2 ^ 32 ⌝ }
+fn put_start(state: &mut [u32; 20], start: Start) -> u32
+    requires { ⌜ (start .state .z .start < 2 ^ 32) × (start .state .count < 2 ^ 32) ⌝ }
     ensures { λ r. ⌜ record { number = r; array = now (state .exit) } ≡ startArray (startTold start) ⌝ }
 {
     let z = start.state;
@@ -35,7 +37,7 @@ fn put_start(state: &mut [u32; 19], start: Start) -> u32
 
 // A ZUC-128 generator, or BAD_KEY, BAD_IV.
 #[no_mangle]
-pub extern "C" fn zuc128_start(state: &mut [u32; 19], key: &[u8], iv: &[u8]) -> u32
+pub extern "C" fn zuc128_start(state: &mut [u32; 20], key: &[u8], iv: &[u8]) -> u32
     ensures { λ r. ⌜ record { number = r; array = now (state .exit) } ≡ startArray (start₁₂₈ (now (key .entry)) (now (iv .entry))) ⌝ }
 {
     put_start(state, keystream::zuc128::new(key, iv))
@@ -43,7 +45,7 @@ pub extern "C" fn zuc128_start(state: &mut [u32; 19], key: &[u8], iv: &[u8]) -> 
 
 // A ZUC-256 generator, or BAD_KEY, BAD_IV.
 #[no_mangle]
-pub extern "C" fn zuc256_start(state: &mut [u32; 19], key: &[u8], iv: &[u8]) -> u32
+pub extern "C" fn zuc256_start(state: &mut [u32; 20], key: &[u8], iv: &[u8]) -> u32
     ensures { λ r. ⌜ record { number = r; array = now (state .exit) } ≡ startArray (start₂₅₆ d-keystream (now (key .entry)) (now (iv .entry))) ⌝ }
 {
     put_start(state, keystream::zuc256::new(key, iv))
@@ -52,7 +54,7 @@ pub extern "C" fn zuc256_start(state: &mut [u32; 19], key: &[u8], iv: &[u8]) -> 
 // A generator of the EEA3 keystream, or BAD_KEY.
 #[no_mangle]
 pub extern "C" fn eea3_start(
-    state: &mut [u32; 19],
+    state: &mut [u32; 20],
     count: u32,
     bearer: u8,
     direction: u8,
@@ -63,22 +65,25 @@ pub extern "C" fn eea3_start(
     put_start(state, keystream::eea3::new(count, bearer, direction, key))
 }
 
-// The next word, or BAD_STATE. The draw is made in the array itself.
+// The next word, or BAD_STATE, SPENT. The draw is made in the array itself.
 #[no_mangle]
-pub extern "C" fn zuc_draw(state: &mut [u32; 19], word: &mut u32) -> u32
+pub extern "C" fn zuc_draw(state: &mut [u32; 20], word: &mut u32) -> u32
     ensures { λ r. ⌜ record { number = r; word = now (word .exit); array = now (state .exit) } ≡ drawArray (drawOutcome (heldIn (now (state .entry)))) ⌝ }
 {
     *word = 0;
     if !is_formed(state) {
         return BAD_STATE;
     }
+    if !has_word(state) {
+        return SPENT;
+    }
     *word = draw_in(state);
     ACCEPTED
 }
 
-// The next words, as many as are lent, or BAD_STATE.
+// The next words, as many as are lent, or BAD_STATE, SPENT.
 #[no_mangle]
-pub extern "C" fn zuc_words(state: &mut [u32; 19], out: &mut [u32]) -> u32
+pub extern "C" fn zuc_words(state: &mut [u32; 20], out: &mut [u32]) -> u32
     ensures { λ r. ⌜ record { number = r; array = now (state .exit); buffer = now (out .exit) } ≡ wordsArray (fillOutcome (heldIn (now (state .entry))) (now (out .entry))) ⌝ }
 {
     let filling = keystream::fill(state_in(*state), out);
@@ -89,8 +94,8 @@ pub extern "C" fn zuc_words(state: &mut [u32; 19], out: &mut [u32]) -> u32
 }
 
 // What a masking call hands back goes into the array and the count, whatever its buffer became.
-fn put_mask(masked: Masked, state: &mut [u32; 19], count: &mut usize) -> u32
-    requires { ⌜ masked .state .start < 2 ^ 32 ⌝ }
+fn put_mask(masked: Masked, state: &mut [u32; 20], count: &mut usize) -> u32
+    requires { ⌜ (masked .state .z .start < 2 ^ 32) × (masked .state .count < 2 ^ 32) ⌝ }
     ensures { λ r. ⌜ ((buffer : List ℕ) → record { number = r; count = now (count .exit); array = now (state .exit); buffer = buffer } ≡ maskArray (told masked buffer)) ⌝ }
 {
     let next = masked.state;
@@ -100,10 +105,10 @@ fn put_mask(masked: Masked, state: &mut [u32; 19], count: &mut usize) -> u32
     mask_number(answer)
 }
 
-// A mask as the crate does it, or BAD_STATE, BAD_BITS.
+// A mask as the crate does it, or BAD_STATE, BAD_BITS, SPENT.
 #[no_mangle]
 pub extern "C" fn zuc_mask_crate(
-    state: &mut [u32; 19],
+    state: &mut [u32; 20],
     buf: &mut [u8],
     bits: usize,
     count: &mut usize,
@@ -114,10 +119,10 @@ pub extern "C" fn zuc_mask_crate(
     put_mask(masked, state, count)
 }
 
-// A mask with every bit past the length zeroed, or BAD_STATE, BAD_BITS.
+// A mask with every bit past the length zeroed, or BAD_STATE, BAD_BITS, SPENT.
 #[no_mangle]
 pub extern "C" fn zuc_mask_clean(
-    state: &mut [u32; 19],
+    state: &mut [u32; 20],
     buf: &mut [u8],
     bits: usize,
     count: &mut usize,

@@ -4,8 +4,8 @@ ghost use Rattle.capi_arrays.specs.Arrays.{storedIn};
 ghost use Rattle.capi.specs.Tags.{closingArray, tagArray, twoClosing, twoOnce};
 ghost use Rattle.keystream.specs.Starts.{startNumber};
 ghost use Rattle.mac.specs.Calls.{finishOutcome-128, finishOutcome-256, onceOutcome-128, onceOutcome-256, onceOutcome-EIA3, onceTold-128, startOutcome-128, startOutcome-256, startOutcome-EIA3, updateNumber, updateOutcome};
-ghost use Rattle.standard.specs.States.{formed-128, formed};
-ghost use Rattle.mac_registers.specs.Stored.{storedOf};
+ghost use Rattle.standard.specs.States.{formed-128, formed, tagFormed};
+ghost use Rattle.mac.specs.Reading.{taggedOf};
 use capi_answers::number_128;
 use capi_answers::number_256;
 use capi_answers::once_number_128;
@@ -26,29 +26,30 @@ use mac::UpdateAnswer;
 use mac_registers::TagState;
 
 // What a start hands back goes into the array: zeros, where it was refused.
-fn put_start(state: &mut [u64; 20], answer: StartAnswer, s: TagState) -> u32
-    ensures { λ r. ⌜ record { number = r; array = now (state .exit) } ≡ tagArray (record { number = startNumber answer; state = storedOf s }) ⌝ }
+fn put_start(state: &mut [u64; 21], answer: StartAnswer, s: TagState, count: usize) -> u32
+    ensures { λ r. ⌜ record { number = r; array = now (state .exit) } ≡ tagArray (record { number = startNumber answer; state = taggedOf s count }) ⌝ }
 {
-    *state = tag_array_of(s);
+    *state = tag_array_of(s, count);
     start_number(answer)
 }
 
 // A ZUC-128 tag state, or BAD_KEY, BAD_IV.
 #[no_mangle]
-pub extern "C" fn zuc128_tag_start(state: &mut [u64; 20], key: &[u8], iv: &[u8]) -> u32
+pub extern "C" fn zuc128_tag_start(state: &mut [u64; 21], key: &[u8], iv: &[u8]) -> u32
     ensures { λ r. ⌜ record { number = r; array = now (state .exit) } ≡ tagArray (startOutcome-128 (now (key .entry)) (now (iv .entry))) ⌝ }
 {
     let start = mac::zuc128::new(key, iv);
     let mac = start.mac;
     let s = mac.state;
+    let drawn = mac.count;
     let answer = start.answer;
-    put_start(state, answer, s)
+    put_start(state, answer, s, drawn)
 }
 
 // An EIA3 tag state, or BAD_KEY.
 #[no_mangle]
 pub extern "C" fn eia3_tag_start(
-    state: &mut [u64; 20],
+    state: &mut [u64; 21],
     count: u32,
     bearer: u8,
     direction: u8,
@@ -59,14 +60,15 @@ pub extern "C" fn eia3_tag_start(
     let start = mac::eia3::new(count, bearer, direction, key);
     let mac = start.mac;
     let s = mac.state;
+    let drawn = mac.count;
     let answer = start.answer;
-    put_start(state, answer, s)
+    put_start(state, answer, s, drawn)
 }
 
 // A ZUC-256 tag state of a width in bytes, or BAD_WIDTH, BAD_KEY, BAD_IV.
 #[no_mangle]
 pub extern "C" fn zuc256_tag_start(
-    state: &mut [u64; 20],
+    state: &mut [u64; 21],
     width: usize,
     key: &[u8],
     iv: &[u8],
@@ -76,48 +78,65 @@ pub extern "C" fn zuc256_tag_start(
     let start = mac::zuc256::new(width, key, iv);
     let mac = start.mac;
     let s = mac.state;
+    let drawn = mac.count;
     let answer = start.answer;
-    put_start(state, answer, s)
+    put_start(state, answer, s, drawn)
 }
 
 // What an update hands back goes into the array.
-fn put_update(state: &mut [u64; 20], answer: UpdateAnswer, s: TagState) -> u32
-    ensures { λ r. ⌜ record { number = r; array = now (state .exit) } ≡ tagArray (record { number = updateNumber answer; state = storedOf s }) ⌝ }
+fn put_update(state: &mut [u64; 21], answer: UpdateAnswer, s: TagState, words: usize) -> u32
+    ensures { λ r. ⌜ record { number = r; array = now (state .exit) } ≡ tagArray (record { number = updateNumber answer; state = taggedOf s words }) ⌝ }
 {
-    *state = tag_array_of(s);
+    *state = tag_array_of(s, words);
     update_number(answer)
 }
 
-// More bytes of a message, of ZUC-128 or EIA3, or BAD_STATE.
+// More bytes of a message, of ZUC-128 or EIA3, or BAD_STATE, SPENT.
 #[no_mangle]
-pub extern "C" fn zuc128_tag_update(state: &mut [u64; 20], msg: &[u8]) -> u32
-    ensures { λ r. ⌜ record { number = r; array = now (state .exit) } ≡ tagArray (updateOutcome (formed-128 (storedIn (now (state .entry)))) (storedIn (now (state .entry))) (now (msg .entry))) ⌝ }
+pub extern "C" fn zuc128_tag_update(state: &mut [u64; 21], msg: &[u8]) -> u32
+    ensures { λ r. ⌜ record { number = r; array = now (state .exit) } ≡ tagArray (updateOutcome (tagFormed formed-128 (storedIn (now (state .entry)))) (storedIn (now (state .entry))) (now (msg .entry))) ⌝ }
 {
     let before = tag_state_in(*state);
-    let update = mac::zuc128::update(Mac128 { state: before }, msg);
+    let count = state[10] as usize;
+    let update = mac::zuc128::update(
+        Mac128 {
+            state: before,
+            count,
+        },
+        msg,
+    );
     let mac = update.mac;
     let s = mac.state;
+    let drawn = mac.count;
     let answer = update.answer;
-    put_update(state, answer, s)
+    put_update(state, answer, s, drawn)
 }
 
-// More bytes of a message, of ZUC-256, or BAD_STATE.
+// More bytes of a message, of ZUC-256, or BAD_STATE, SPENT.
 #[no_mangle]
-pub extern "C" fn zuc256_tag_update(state: &mut [u64; 20], msg: &[u8]) -> u32
-    ensures { λ r. ⌜ record { number = r; array = now (state .exit) } ≡ tagArray (updateOutcome (formed (storedIn (now (state .entry)))) (storedIn (now (state .entry))) (now (msg .entry))) ⌝ }
+pub extern "C" fn zuc256_tag_update(state: &mut [u64; 21], msg: &[u8]) -> u32
+    ensures { λ r. ⌜ record { number = r; array = now (state .exit) } ≡ tagArray (updateOutcome (tagFormed formed (storedIn (now (state .entry)))) (storedIn (now (state .entry))) (now (msg .entry))) ⌝ }
 {
     let before = tag_state_in(*state);
-    let update = mac::zuc256::update(Mac256 { state: before }, msg);
+    let count = state[10] as usize;
+    let update = mac::zuc256::update(
+        Mac256 {
+            state: before,
+            count,
+        },
+        msg,
+    );
     let mac = update.mac;
     let s = mac.state;
+    let drawn = mac.count;
     let answer = update.answer;
-    put_update(state, answer, s)
+    put_update(state, answer, s, drawn)
 }
 
-// The tag of ZUC-128 or EIA3, and a state of zeros, or BAD_STATE, BAD_BITS.
+// The tag of ZUC-128 or EIA3, and a state of zeros, or BAD_STATE, BAD_BITS, SPENT.
 #[no_mangle]
 pub extern "C" fn zuc128_tag_finish(
-    state: &mut [u64; 20],
+    state: &mut [u64; 21],
     tail: &[u8],
     bits: usize,
     tag: &mut [u64; 2],
@@ -125,19 +144,28 @@ pub extern "C" fn zuc128_tag_finish(
     ensures { λ r. ⌜ record { number = r; tag = now (tag .exit); array = now (state .exit) } ≡ closingArray (twoClosing (finishOutcome-128 (storedIn (now (state .entry))) (now (tail .entry)) bits)) ⌝ }
 {
     let before = tag_state_in(*state);
-    let finish = mac::zuc128::finish(Mac128 { state: before }, tail, bits);
+    let count = state[10] as usize;
+    let finish = mac::zuc128::finish(
+        Mac128 {
+            state: before,
+            count,
+        },
+        tail,
+        bits,
+    );
     let mac = finish.mac;
     let s = mac.state;
+    let drawn = mac.count;
     let answer = finish.answer;
-    *state = tag_array_of(s);
+    *state = tag_array_of(s, drawn);
     *tag = [tag_word(answer) as u64, 0];
     number_128(answer)
 }
 
-// The tag of ZUC-256, and a state of zeros, or BAD_STATE, BAD_BITS.
+// The tag of ZUC-256, and a state of zeros, or BAD_STATE, BAD_BITS, SPENT.
 #[no_mangle]
 pub extern "C" fn zuc256_tag_finish(
-    state: &mut [u64; 20],
+    state: &mut [u64; 21],
     tail: &[u8],
     bits: usize,
     tag: &mut [u64; 2],
@@ -145,11 +173,20 @@ pub extern "C" fn zuc256_tag_finish(
     ensures { λ r. ⌜ record { number = r; tag = now (tag .exit); array = now (state .exit) } ≡ closingArray (finishOutcome-256 (storedIn (now (state .entry))) (now (tail .entry)) bits) ⌝ }
 {
     let before = tag_state_in(*state);
-    let finish = mac::zuc256::finish(Mac256 { state: before }, tail, bits);
+    let count = state[10] as usize;
+    let finish = mac::zuc256::finish(
+        Mac256 {
+            state: before,
+            count,
+        },
+        tail,
+        bits,
+    );
     let mac = finish.mac;
     let s = mac.state;
+    let drawn = mac.count;
     let answer = finish.answer;
-    *state = tag_array_of(s);
+    *state = tag_array_of(s, drawn);
     *tag = tag_words(answer);
     number_256(answer)
 }
@@ -162,7 +199,7 @@ fn put_once_128(answer: Once128, tag: &mut [u64; 2]) -> u32
     once_number_128(answer)
 }
 
-// A ZUC-128 tag at once, or BAD_KEY, BAD_IV, BAD_BITS.
+// A ZUC-128 tag at once, or BAD_KEY, BAD_IV, BAD_BITS, SPENT.
 #[no_mangle]
 pub extern "C" fn zuc128_tag(
     key: &[u8],
@@ -176,7 +213,7 @@ pub extern "C" fn zuc128_tag(
     put_once_128(mac::zuc128::compute(key, iv, msg, bits), tag)
 }
 
-// An EIA3 tag at once, or BAD_KEY, BAD_BITS.
+// An EIA3 tag at once, or BAD_KEY, BAD_BITS, SPENT.
 #[no_mangle]
 pub extern "C" fn eia3_tag(
     count: u32,
@@ -195,7 +232,7 @@ pub extern "C" fn eia3_tag(
     )
 }
 
-// A ZUC-256 tag at once, or BAD_WIDTH, BAD_KEY, BAD_IV, BAD_BITS.
+// A ZUC-256 tag at once, or BAD_WIDTH, BAD_KEY, BAD_IV, BAD_BITS, SPENT.
 #[no_mangle]
 pub extern "C" fn zuc256_tag(
     width: usize,

@@ -30,6 +30,8 @@ pub const BAD_STATE: u32 = 4;
 
 pub const BAD_BITS: u32 = 5;
 
+pub const SPENT: u32 = 16;
+
 pub const BAD_REUSE: u32 = 11;
 
 pub const BAD_AGE: u32 = 12;
@@ -53,6 +55,7 @@ pub fn draw_number(answer: DrawAnswer) -> u32
     match answer {
         DrawAnswer::Word(_) => ACCEPTED,
         DrawAnswer::BadState => BAD_STATE,
+        DrawAnswer::Spent => SPENT,
     }
 }
 
@@ -62,6 +65,7 @@ pub fn draw_word(answer: DrawAnswer) -> u32
     match answer {
         DrawAnswer::Word(w) => w,
         DrawAnswer::BadState => 0,
+        DrawAnswer::Spent => 0,
     }
 }
 
@@ -71,6 +75,7 @@ pub fn fill_number(answer: FillAnswer) -> u32
     match answer {
         FillAnswer::Filled => ACCEPTED,
         FillAnswer::BadState => BAD_STATE,
+        FillAnswer::Spent => SPENT,
     }
 }
 
@@ -81,6 +86,7 @@ pub fn mask_number(answer: MaskAnswer) -> u32
         MaskAnswer::Done(_) => ACCEPTED,
         MaskAnswer::BadState => BAD_STATE,
         MaskAnswer::BadBits => BAD_BITS,
+        MaskAnswer::Spent => SPENT,
     }
 }
 
@@ -91,6 +97,7 @@ pub fn mask_count(answer: MaskAnswer) -> usize
         MaskAnswer::Done(n) => n,
         MaskAnswer::BadState => 0,
         MaskAnswer::BadBits => 0,
+        MaskAnswer::Spent => 0,
     }
 }
 
@@ -100,6 +107,7 @@ pub fn update_number(answer: UpdateAnswer) -> u32
     match answer {
         UpdateAnswer::Done => ACCEPTED,
         UpdateAnswer::BadState => BAD_STATE,
+        UpdateAnswer::Spent => SPENT,
     }
 }
 
@@ -111,6 +119,7 @@ pub fn number_128(answer: Tag128) -> u32
         Tag128::Tag(_) => ACCEPTED,
         Tag128::BadState => BAD_STATE,
         Tag128::BadBits => BAD_BITS,
+        Tag128::Spent => SPENT,
     }
 }
 
@@ -121,6 +130,7 @@ pub fn tag_word(answer: Tag128) -> u32
         Tag128::Tag(tag) => tag,
         Tag128::BadState => 0,
         Tag128::BadBits => 0,
+        Tag128::Spent => 0,
     }
 }
 
@@ -131,6 +141,7 @@ pub fn number_256(answer: Tag256) -> u32
         Tag256::Tag(_, _) => ACCEPTED,
         Tag256::BadState => BAD_STATE,
         Tag256::BadBits => BAD_BITS,
+        Tag256::Spent => SPENT,
     }
 }
 
@@ -141,6 +152,7 @@ pub fn tag_words(answer: Tag256) -> [u64; 2]
         Tag256::Tag(high, low) => [high, low],
         Tag256::BadState => [0, 0],
         Tag256::BadBits => [0, 0],
+        Tag256::Spent => [0, 0],
     }
 }
 
@@ -153,6 +165,7 @@ pub fn once_number_128(answer: Once128) -> u32
         Once128::BadKey => BAD_KEY,
         Once128::BadIv => BAD_IV,
         Once128::BadBits => BAD_BITS,
+        Once128::Spent => SPENT,
     }
 }
 
@@ -164,6 +177,7 @@ pub fn once_word(answer: Once128) -> u32
         Once128::BadKey => 0,
         Once128::BadIv => 0,
         Once128::BadBits => 0,
+        Once128::Spent => 0,
     }
 }
 
@@ -176,6 +190,7 @@ pub fn once_number_256(answer: Once256) -> u32
         Once256::BadKey => BAD_KEY,
         Once256::BadIv => BAD_IV,
         Once256::BadBits => BAD_BITS,
+        Once256::Spent => SPENT,
     }
 }
 
@@ -188,6 +203,7 @@ pub fn once_words(answer: Once256) -> [u64; 2]
         Once256::BadKey => [0, 0],
         Once256::BadIv => [0, 0],
         Once256::BadBits => [0, 0],
+        Once256::Spent => [0, 0],
     }
 }
 

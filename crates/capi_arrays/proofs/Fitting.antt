@@ -18,7 +18,7 @@ use Rattle.standard.proofs.Cells.{Cells}
 use Rattle.standard.proofs.Permutation.{S₀-permutation, S₁-permutation}
 use Rattle.standard.specs.Generator.{F, S, State, initialised, next, started, workStep}
 use Rattle.standard.specs.Notation.{_⟨_⟩, if_then_else_}
-use Rattle.standard.specs.States.{Held, Stored, fromZero, moved}
+use Rattle.standard.specs.States.{Counted, Held, Stored, fromZero, moved}
 
 -- registers of 32 bits: those of every state at rest
 abbrev Registers : State → Type 0
@@ -118,5 +118,5 @@ packed-fits {w} {st} g s =
       rem = append-fits (λ (x : ℕ). x < 2 ^ 8) (st .waiting) (replicate (16 - n) 0) (s .waiting) (zeros-fit (16 - n));
     }
 
-pub packed-array : {w : ℕ} {st : Tagging} → Good w st → Small st → {s : Stored} → s ≡ packed w st → storedIn (tagArrayOf s) ≡ s
-packed-array g h {s} e = array-stored s (subst Fit (sym e) (packed-fits g h))
+pub packed-array : {w : ℕ} {st : Tagging} → Good w st → Small st → {c : Counted Stored} → c .held ≡ packed w st → storedIn (tagArrayOf c) ≡ c
+packed-array g h {c} e = array-stored c (subst Fit (sym e) (packed-fits g h))

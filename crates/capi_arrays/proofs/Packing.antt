@@ -8,7 +8,7 @@ use native.Mathlib.Omega.{arith}
 use Prim.Native.Nat.{ℕ, zero, suc, _+_, _-_, _*_, _^_, _<_, _≤_}
 use Rattle.capi_arrays.proofs.Regrouped.{regrouped-back, regrouped-length}
 use Rattle.capi_arrays.specs.Arrays.{arrayOf, heldFrom, heldIn, placed, regrouped, storedIn, tagArrayOf}
-use Rattle.standard.specs.States.{Held, Stored}
+use Rattle.standard.specs.States.{Counted, Held, Stored}
 use Rattle.standard.proofs.Listed.{getD-listed, is-listed, length-listed}
 use Rattle.standard.specs.Notation.{_⟨_⟩, listed}
 use Rattle.zuc.proofs.Turning.{cells-back, length-places, places-back}
@@ -57,9 +57,9 @@ placed-length h e =
     ∙ ap (λ (n : ℕ). n + 2) (length-places (h .start) (h .meaning .cells) ∙ e)
 
 -- generators
-pub held-array : (a : List ℕ) → length a ≡ 19 → arrayOf (heldIn a) ≡ a
+pub held-array : (a : List ℕ) → length a ≡ 20 → arrayOf (heldIn a) ≡ a
 unfolding arrayOf heldIn listed heldFrom
-held-array a e = ap (λ (s : List ℕ). s ++ (a ⟨ 18 ⟩ ∷ [])) (placed-from (a ⟨ 18 ⟩) a (omega arith)) ∙ all-listed a 19 e
+held-array a e = ap (λ (s : List ℕ). s ++ (a ⟨ 18 ⟩ ∷ a ⟨ 19 ⟩ ∷ [])) (placed-from (a ⟨ 18 ⟩) a (omega arith)) ∙ all-listed a 20 e
 
 -- only the first eighteen words are read
 front : (start : ℕ) (a b : List ℕ) → length a ≡ 18 → heldFrom start (a ++ b) ≡ heldFrom start a
@@ -75,13 +75,17 @@ front start a b full =
       start = start;
     }
 
-pub array-held : (h : Held) → length (h .meaning .cells) ≡ 16 → heldIn (arrayOf h) ≡ h
+pub array-held : (g : Counted Held) → length (g .held .meaning .cells) ≡ 16 → heldIn (arrayOf g) ≡ g
 unfolding arrayOf heldIn
-array-held h e =
+array-held g e =
+    let h = g .held in
+    let last : List ℕ = h .start ∷ g .count ∷ [] in
     let full = placed-length h e in
-    ap (λ (n : ℕ). heldFrom n (placed h ++ (h .start ∷ []))) (getD-at (placed h) (h .start) [] 0 18 full)
-    ∙ front (h .start) (placed h) (h .start ∷ []) full
-    ∙ from-placed h e
+    let held =
+    ap (λ (n : ℕ). heldFrom n (placed h ++ last)) (getD-at (placed h) (h .start) (g .count ∷ []) 0 18 full)
+    ∙ front (h .start) (placed h) last full
+    ∙ from-placed h e in
+    λ i. record { held = held i; count = (ap (λ (n : ℕ). (placed h ++ last) ⟨ n + 1 ⟩) (sym full) ∙ getD-append-add (placed h) last 1 0) i }
 
 -- a number out of two lists, by what holds of each entry of both and of 0
 pub append-fits : (P : ℕ → Type 0) (xs ys : List ℕ) → ((k : ℕ) → P (xs ⟨ k ⟩)) → ((k : ℕ) → P (ys ⟨ k ⟩)) → (k : ℕ) → P ((xs ++ ys) ⟨ k ⟩)
@@ -124,19 +128,27 @@ placed-fits s fit =
     (turned-fits (λ (x : ℕ). x < 2 ^ 32) (lit< tt) (length (h .meaning .cells) - h .start) (h .meaning .cells) (fit .cells))
     (registers-fit (h .meaning .R₁) (h .meaning .R₂) (fit .R₁) (fit .R₂))
 
-pub array-stored : (s : Stored) → Fit s → storedIn (tagArrayOf s) ≡ s
+pub array-stored : (c : Counted Stored) → Fit (c .held) → storedIn (tagArrayOf c) ≡ c
 unfolding tagArrayOf storedIn regrouped listed
-array-stored s fit =
-    (λ i. storedIn (tagArrayOf (record { generator = g; key = sym key i; tag = sym tag i; rem = s .rem; cnt = s .cnt; width = s .width })))
+array-stored c fit =
+    (λ i. storedIn
+    (tagArrayOf (record { held = record { generator = g; key = sym key i; tag = sym tag i; rem = s .rem; cnt = s .cnt; width = s .width }; count = c .count })))
     ∙ (λ i. record {
-      generator = (ap (heldFrom (g .start)) words ∙ from-placed g (fit .cells-full)) i;
-      key = key i;
-      tag = tag i;
-      rem = regrouped-back 8 64 2 16 (lit< tt) (lit< tt) refl (s .rem) (fit .rem-full) (λ k h. fit .rem k) i;
-      cnt = s .cnt;
-      width = s .width;
+      held =
+          record {
+            generator = (ap (heldFrom (g .start)) words ∙ from-placed g (fit .cells-full)) i;
+            key = key i;
+            tag = tag i;
+            rem = regrouped-back 8 64 2 16 (lit< tt) (lit< tt) refl (s .rem) (fit .rem-full) (λ k h. fit .rem k) i;
+            cnt = s .cnt;
+            width = s .width;
+          };
+      count = c .count;
     })
   where
+    s : Stored
+    s = c .held
+
     g : Held
     g = s .generator
 
@@ -156,17 +168,18 @@ part-back n c d from pos same a h fits =
     regrouped-back 64 n c d (lit< tt) pos same (take d (drop from a)) (length-take-le d (drop from a) (omega (arith, length-drop from a)))
     (λ k l. subst (λ (x : ℕ). x < 2 ^ 64) (sym (getD-take d (drop from a) k 0 l ∙ getD-drop from a k 0)) (fits (from + k) (omega arith)))
 
-pub stored-array : (a : List ℕ) → length a ≡ 20 → ((k : ℕ) → k < length a → a ⟨ k ⟩ < 2 ^ 64) → tagArrayOf (storedIn a) ≡ a
+pub stored-array : (a : List ℕ) → length a ≡ 21 → ((k : ℕ) → k < length a → a ⟨ k ⟩ < 2 ^ 64) → tagArrayOf (storedIn a) ≡ a
 unfolding tagArrayOf storedIn listed heldFrom
 stored-array a e fits =
     (λ i. (ap (regrouped 32 64 9) (placed-from (a ⟨ 9 ⟩) halves (omega (arith, full)) ∙ all-listed halves 18 full)
     ∙ part-back 32 18 9 0 (lit< tt) refl a (omega arith) fits
     ∙ sym (part-listed a 0 9 (omega arith))) i
     ++ (a ⟨ 9 ⟩
-    ∷ sym (part-listed a 10 4 (omega arith)) i
-    ++ (sym (part-listed a 14 2 (omega arith)) i
-    ++ ((part-back 8 16 2 16 (lit< tt) refl a (omega arith) fits ∙ sym (part-listed a 16 2 (omega arith))) i ++ (a ⟨ 18 ⟩ ∷ a ⟨ 19 ⟩ ∷ [])))))
-    ∙ all-listed a 20 e
+    ∷ a ⟨ 10 ⟩
+    ∷ sym (part-listed a 11 4 (omega arith)) i
+    ++ (sym (part-listed a 15 2 (omega arith)) i
+    ++ ((part-back 8 16 2 17 (lit< tt) refl a (omega arith) fits ∙ sym (part-listed a 17 2 (omega arith))) i ++ (a ⟨ 19 ⟩ ∷ a ⟨ 20 ⟩ ∷ [])))))
+    ∙ all-listed a 21 e
   where
     halves : List ℕ
     halves = regrouped 64 32 18 (take 9 a)

@@ -7,18 +7,20 @@ ghost use Rattle.capi_arrays.specs.Arrays.{arrayOf, heldFrom, heldIn, pl
 ghost use Rattle.mac_registers.specs.Stored.{storedOf};
 ghost use Rattle.standard.specs.Bits.{bitOf, window};
 ghost use Rattle.standard.specs.Notation.{_⟨_⟩};
-ghost use Rattle.zuc.specs.Reading.{heldOf};
+ghost use Rattle.zuc.specs.Reading.{countedOf, heldOf};
 use mac_registers::TagState;
 use mac_registers::sums::joined;
 use mac_registers::wide_at;
+use zuc::Generator;
 use zuc::Zuc;
 
-// A generator: the sixteen places, R1, R2, the start index.
-pub fn array_of(z: Zuc) -> [u32; 19]
-    requires { ⌜ z .start < 2 ^ 32 ⌝ }
-    ensures is { λ r. ⌜ r ≡ arrayOf (heldOf z) ⌝ }
-    ensures back { λ r. ⌜ heldIn r ≡ heldOf z ⌝ }
+// A generator: the sixteen places, R1, R2, the start index, the count of words drawn.
+pub fn array_of(g: Generator) -> [u32; 20]
+    requires { ⌜ (g .z .start < 2 ^ 32) × (g .count < 2 ^ 32) ⌝ }
+    ensures is { λ r. ⌜ r ≡ arrayOf (countedOf g) ⌝ }
+    ensures back { λ r. ⌜ heldIn r ≡ countedOf g ⌝ }
 {
+    let z = g.z;
     let s = z.s;
     [
         s[0],
@@ -40,6 +42,7 @@ pub fn array_of(z: Zuc) -> [u32; 19]
         z.r1,
         z.r2,
         z.start as u32,
+        g.count as u32,
     ]
 }
 
@@ -55,17 +58,20 @@ fn places_in(a: &[u32]) -> [u32; 16]
     places
 }
 
-pub fn state_in(a: [u32; 19]) -> Zuc
-    ensures is { λ r. ⌜ heldOf r ≡ heldIn a ⌝ }
-    ensures back { λ r. ⌜ arrayOf (heldOf r) ≡ a ⌝ }
-    ensures small { λ r. ⌜ r .start < 2 ^ 32 ⌝ }
+pub fn state_in(a: [u32; 20]) -> Generator
+    ensures is { λ r. ⌜ countedOf r ≡ heldIn a ⌝ }
+    ensures back { λ r. ⌜ arrayOf (countedOf r) ≡ a ⌝ }
+    ensures small { λ r. ⌜ (r .z .start < 2 ^ 32) × (r .count < 2 ^ 32) ⌝ }
 {
     let s = places_in(&a);
-    Zuc {
-        s,
-        r1: a[16],
-        r2: a[17],
-        start: a[18] as usize,
+    Generator {
+        z: Zuc {
+            s,
+            r1: a[16],
+            r2: a[17],
+            start: a[18] as usize,
+        },
+        count: a[19] as usize,
     }
 }
 
@@ -98,7 +104,7 @@ fn byte_of(word: u64, k: usize) -> u8
     ((word >> (56 - 8 * k)) % 256) as u8
 }
 
-fn halves_in(a: [u64; 20]) -> [u32; 18]
+fn halves_in(a: [u64; 21]) -> [u32; 18]
     ensures { λ r. ⌜ r ≡ regrouped 64 32 18 (take 9 a) ⌝ }
 {
     let mut halves = [0u32; 18];
@@ -108,18 +114,18 @@ fn halves_in(a: [u64; 20]) -> [u32; 18]
     halves
 }
 
-fn bytes_in(a: [u64; 20]) -> [u8; 16]
-    ensures { λ r. ⌜ r ≡ regrouped 64 8 16 (take 2 (drop 16 a)) ⌝ }
+fn bytes_in(a: [u64; 21]) -> [u8; 16]
+    ensures { λ r. ⌜ r ≡ regrouped 64 8 16 (take 2 (drop 17 a)) ⌝ }
 {
     let mut bytes = [0u8; 16];
     for i in 0usize..16 {
-        bytes[i] = byte_of(a[16 + i / 8], i % 8);
+        bytes[i] = byte_of(a[17 + i / 8], i % 8);
     }
     bytes
 }
 
 // A generator out of a tag state's array.
-fn generator_in(a: [u64; 20]) -> Zuc
+fn generator_in(a: [u64; 21]) -> Zuc
     ensures { λ r. ⌜ heldOf r ≡ heldFrom (a ⟨ 9 ⟩) (regrouped 64 32 18 (take 9 a)) ⌝ }
 {
     let halves = halves_in(a);
@@ -133,9 +139,9 @@ fn generator_in(a: [u64; 20]) -> Zuc
 }
 
 // A tag state: the generator and the bytes that wait are joined to words of 64 bits, so that no number is too great for its place.
-pub fn tag_array_of(s: TagState) -> [u64; 20]
-    ensures is { λ r. ⌜ r ≡ tagArrayOf (storedOf s) ⌝ }
-    ensures back { λ r. ⌜ storedIn r ≡ storedOf s ⌝ }
+pub fn tag_array_of(s: TagState, count: usize) -> [u64; 21]
+    ensures is { λ r. ⌜ r ≡ tagArrayOf (record { held = storedOf s; count = count }) ⌝ }
+    ensures back { λ r. ⌜ storedIn r ≡ record { held = storedOf s; count = count } ⌝ }
 {
     let g = s.g;
     let key = s.key;
@@ -155,6 +161,7 @@ pub fn tag_array_of(s: TagState) -> [u64; 20]
         w[7],
         w[8],
         g.start as u64,
+        count as u64,
         key[0],
         key[1],
         key[2],
@@ -168,18 +175,19 @@ pub fn tag_array_of(s: TagState) -> [u64; 20]
     ]
 }
 
-pub fn tag_state_in(a: [u64; 20]) -> TagState
-    ensures is { λ r. ⌜ storedOf r ≡ storedIn a ⌝ }
-    ensures back { λ r. ⌜ tagArrayOf (storedOf r) ≡ a ⌝ }
+// The count of words drawn is word 10, which a caller reads itself.
+pub fn tag_state_in(a: [u64; 21]) -> TagState
+    ensures is { λ r. ⌜ record { held = storedOf r; count = a ⟨ 10 ⟩ } ≡ storedIn a ⌝ }
+    ensures back { λ r. ⌜ tagArrayOf (record { held = storedOf r; count = a ⟨ 10 ⟩ }) ≡ a ⌝ }
 {
     let g = generator_in(a);
     let rem = bytes_in(a);
     TagState {
         g,
-        key: [a[10], a[11], a[12], a[13]],
-        tag: [a[14], a[15]],
+        key: [a[11], a[12], a[13], a[14]],
+        tag: [a[15], a[16]],
         rem,
-        cnt: a[18] as usize,
-        width: a[19] as usize,
+        cnt: a[19] as usize,
+        width: a[20] as usize,
     }
 }

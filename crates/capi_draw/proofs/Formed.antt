@@ -7,11 +7,11 @@ use mathlib.Core.Path.{_≡_, _∙_}
 use native.Mathlib.Omega.{arith}
 use Prim.Native.Nat.{ℕ}
 use Rattle.capi_arrays.specs.Arrays.{heldFrom, heldIn}
-use Rattle.standard.proofs.Held.{Ready, heldFormed-ready}
+use Rattle.standard.proofs.Held.{Ready, generatorFormed-ready}
 use Rattle.standard.specs.Notation.{_⟨_⟩}
-use Rattle.standard.specs.States.{heldFormed}
+use Rattle.standard.specs.States.{generatorFormed}
 use Rattle.zuc.proofs.Turning.{length-from}
 
-pub ready-in : (a : List ℕ) → length a ≡ 19 → heldFormed (heldIn a) ≡ true → Ready (heldIn a)
+pub ready-in : (a : List ℕ) → length a ≡ 20 → generatorFormed (heldIn a) ≡ true → Ready (heldIn a .held)
 unfolding heldIn heldFrom
-ready-in a long e = heldFormed-ready (heldIn a) (length-from (a ⟨ 18 ⟩) (take 16 a) ∙ length-take-le 16 a (omega arith)) e
+ready-in a long e = generatorFormed-ready (heldIn a) (length-from (a ⟨ 18 ⟩) (take 16 a) ∙ length-take-le 16 a (omega arith)) e .0

@@ -4,10 +4,10 @@ use mathlib.Core.List.{List, _∷_, _++_}
 use mathlib.Core.Path.{_≡_}
 use Prim.Native.Nat.{ℕ}
 use Rattle.standard.proofs.Promise.{Says}
-use Rattle.standard.specs.States.{Held}
+use Rattle.standard.specs.States.{Counted, Held}
 use Rattle.standard.specs.Loading.{d-keystream}
 use Rattle.standard.specs.Refusals.{accepted}
-use Rattle.zuc.specs.Reading.{heldOf}
+use Rattle.zuc.specs.Reading.{countedOf}
 use Rattle.keystream.proofs.Tight.{in-place-post}
 use Rattle.keystream.proofs.eea3.new.Reads as eea3-new
 use Rattle.keystream.proofs.fill.Reads as fill
@@ -33,15 +33,15 @@ pub called-eea3-new : Says eea3-new.Post (λ κs a r s. startTold r ≡ start-EE
 called-eea3-new κs a r s p = p
 
 -- a run that begins with a call, by the run after it
-module _ {words : List ℕ} {h′ : Held} where
+module _ {words : List ℕ} {g′ : Counted Held} where
   pub called-generate : Says generate.Post
-      (λ κs a r s. drawNumber (r .answer) ≡ accepted → Draws (heldOf (r .state)) words h′ → Draws (heldOf (a .0)) (drawWord (r .answer) ∷ words) h′)
+      (λ κs a r s. drawNumber (r .answer) ≡ accepted → Draws (countedOf (r .state)) words g′ → Draws (countedOf (a .0)) (drawWord (r .answer) ∷ words) g′)
   called-generate κs a r s p ok rest = one (drawTold r) p ok rest
 
   pub called-generate-in-place : Says in-place-post
-      (λ κs a r s. drawNumber r ≡ accepted → Draws (heldOf (now (s .0))) words h′ → Draws (heldOf (now (a .0))) (drawWord r ∷ words) h′)
+      (λ κs a r s. drawNumber r ≡ accepted → Draws (countedOf (now (s .0))) words g′ → Draws (countedOf (now (a .0))) (drawWord r ∷ words) g′)
   called-generate-in-place κs a r s p ok rest = one (drawTold (record { answer = r; state = now (s .0) })) p ok rest
 
   pub called-fill : Says fill.Post
-      (λ κs a r s. fillNumber (r .answer) ≡ accepted → Draws (heldOf (r .state)) words h′ → Draws (heldOf (a .0)) (now (s .1 .0) ++ words) h′)
+      (λ κs a r s. fillNumber (r .answer) ≡ accepted → Draws (countedOf (r .state)) words g′ → Draws (countedOf (a .0)) (now (s .1 .0) ++ words) g′)
   called-fill κs a r s p ok rest = many (now (a .1 .0)) (fillTold r (now (s .1 .0))) p ok rest

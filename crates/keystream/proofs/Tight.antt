@@ -11,11 +11,11 @@ use lib.Dec.{eqb}
 use mathlib.Core.List.{List}
 use mathlib.Core.Path.{_≡_, _∙_, ap, refl, sym}
 use Prim.Native.Nat.{ℕ}
-use Rattle.zuc.proofs.Turning.{read-once}
-use Rattle.zuc.specs.declared.Zuc.{Zuc}
+use Rattle.zuc.proofs.Turning.{counted-once}
+use Rattle.zuc.specs.declared.Generator.{Generator}
 use Rattle.standard.proofs.Promise.{AsksNothing, Tight}
 use Rattle.standard.specs.Notation.{if_then_else_}
-use Rattle.standard.specs.Refusals.{accepted, badKey, badWidth}
+use Rattle.standard.specs.Refusals.{accepted, badKey, badState, badWidth}
 use Rattle.keystream.proofs.eea3.new.Reads as eea3-new
 use Rattle.keystream.proofs.fill.Reads as fill
 use Rattle.keystream.proofs.generate.Reads as generate
@@ -47,34 +47,36 @@ start-back BadKey = refl
 start-back BadIv = refl
 
 drawAnswer : ℕ → ℕ → DrawAnswer
-drawAnswer n w = if eqb n accepted then draw-answer.Word w else draw-answer.BadState
+drawAnswer n w = if eqb n accepted then draw-answer.Word w else if eqb n badState then draw-answer.BadState else draw-answer.Spent
 
 draw-back : (a : DrawAnswer) → drawAnswer (drawNumber a) (drawWord a) ≡ a
 unfolding drawAnswer
 draw-back (draw-answer.Word w) = refl
 draw-back draw-answer.BadState = refl
+draw-back draw-answer.Spent = refl
 
 fillAnswer : ℕ → FillAnswer
-fillAnswer n = if eqb n accepted then fill-answer.Filled else fill-answer.BadState
+fillAnswer n = if eqb n accepted then fill-answer.Filled else if eqb n badState then fill-answer.BadState else fill-answer.Spent
 
 fill-back : (a : FillAnswer) → fillAnswer (fillNumber a) ≡ a
 unfolding fillAnswer
 fill-back fill-answer.Filled = refl
 fill-back fill-answer.BadState = refl
+fill-back fill-answer.Spent = refl
 
 -- what is told tells what is returned
 pub start-tight : (r r′ : Start) → startTold r ≡ startTold r′ → r ≡ r′
 start-tight r r′ e =
     λ i. record {
       answer = (sym (start-back (r .answer)) ∙ ap (λ o. startAnswer (o .number)) e ∙ start-back (r′ .answer)) i;
-      state = read-once (r .state) (r′ .state) (ap (λ o. o .state) e) i;
+      state = counted-once (r .state) (r′ .state) (ap (λ o. o .state) e) i;
     }
 
 draw-tight : (r r′ : Drew) → drawTold r ≡ drawTold r′ → r ≡ r′
 draw-tight r r′ e =
     λ i. record {
       answer = (sym (draw-back (r .answer)) ∙ ap (λ o. drawAnswer (o .number) (o .word)) e ∙ draw-back (r′ .answer)) i;
-      state = read-once (r .state) (r′ .state) (ap (λ o. o .state) e) i;
+      state = counted-once (r .state) (r′ .state) (ap (λ o. o .state) e) i;
     }
 
 -- the starts
@@ -115,7 +117,7 @@ tight-fill κs a r r′ s s′ p q =
     λ i. (
       record {
         answer = (sym (fill-back (r .answer)) ∙ ap (λ o. fillAnswer (o .number)) e ∙ fill-back (r′ .answer)) i;
-        state = read-once (r .state) (r′ .state) (ap (λ o. o .state) e) i;
+        state = counted-once (r .state) (r′ .state) (ap (λ o. o .state) e) i;
       },
       e i .buffer,
     )
@@ -131,7 +133,7 @@ in-place-read κs a r s w = r-last _
 abbrev pub in-place-post : (κs : Lfts 1) (a : ArgsD in-place.signature κs) → ResD in-place.signature κs → AtExit in-place.ended κs → Type 0
 in-place-post κs a r s = AllOf (in-place-read κs a r s w₀ .tells)
 
-pub tight-generate-in-place : Tight {Seen = DrawAnswer × Zuc} in-place-post (λ κs r s. (r, now (s .0)))
+pub tight-generate-in-place : Tight {Seen = DrawAnswer × Generator} in-place-post (λ κs r s. (r, now (s .0)))
 tight-generate-in-place κs a r r′ s s′ p q =
     let e : _≡_ {A = Drew} (record { answer = r; state = now (s .0) }) (record { answer = r′; state = now (s′ .0) }) = draw-tight _ _ (p ∙ sym q) in
     λ i. (e i .answer, e i .state)

@@ -8,8 +8,8 @@ use Rattle.standard.specs.Confidentiality.{IV-EEA3}
 use Rattle.standard.specs.Generator.{State, started}
 use Rattle.standard.specs.Loading.{load₁₂₈, load₂₅₆, rowOf}
 use Rattle.standard.specs.Refusals.{accepted, badIV, badKey, badWidth, ivTest, keyTest, tested, widthTest}
-use Rattle.standard.specs.States.{Held, fromZero, zeros}
-use Rattle.zuc.specs.Reading.{heldOf}
+use Rattle.standard.specs.States.{Counted, Held, fromStart, fromZero, zeros}
+use Rattle.zuc.specs.Reading.{countedOf}
 
 -- the number of each case of the answer, and all that a call gives: that number and the state
 abbrev pub startNumber : StartAnswer → ℕ
@@ -20,17 +20,17 @@ startNumber BadIv = badIV
 
 pub record StartOutcome : Type 0 where
   pub number : ℕ
-  pub state : Held
+  pub state : Counted Held
 
 abbrev pub startTold : Start → StartOutcome
-startTold r = record { number = startNumber (r .answer); state = heldOf (r .state) }
+startTold r = record { number = startNumber (r .answer); state = countedOf (r .state) }
 
 -- an accepted start hands back the started state, a refused one zeros
 abbrev pub acceptedStart : State → StartOutcome
-acceptedStart loaded = record { number = accepted; state = fromZero (started loaded) }
+acceptedStart loaded = record { number = accepted; state = fromStart (fromZero (started loaded)) }
 
 abbrev pub refusedStart : ℕ → StartOutcome
-refusedStart number = record { number = number; state = zeros }
+refusedStart number = record { number = number; state = fromStart zeros }
 
 unfoldable pub start₁₂₈ : List ℕ → List ℕ → StartOutcome
 start₁₂₈ key iv = tested (keyTest 16 key ∷ ivTest 16 iv ∷ []) refusedStart (acceptedStart (load₁₂₈ key iv))

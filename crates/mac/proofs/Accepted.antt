@@ -23,7 +23,7 @@ use Rattle.mac.specs.Inner.{Live}
 
 live : (tests : List Test) → Numbered tests → (loaded : State) → Cells (loaded .cells) → Live (tested tests refusedStart (acceptedStart loaded))
 live tests low loaded c e =
-    subst (λ (o : StartOutcome). Ready (o .state))
+    subst (λ (o : StartOutcome). Ready (o .state .held))
     (sym (accepted-is (λ (o : StartOutcome). o .number) refusedStart (λ n. refl) (acceptedStart loaded) tests low e)) (record { cells = sound-started loaded c; start = lit< tt })
 
 pub live-128 : (k iv : List ℕ) → Bytes k → Bytes iv → Live (start₁₂₈ k iv)

@@ -5,13 +5,14 @@ use mathlib.Core.Path.{_≡_}
 use Prim.Native.Nat.{ℕ, _+_, _*_}
 use lib.ListN.{length}
 use Rattle.standard.specs.Refusals.{accepted}
-use Rattle.standard.specs.States.{Stored, formed, formed-128}
+use Rattle.standard.specs.States.{Counted, Stored, formed, formed-128}
 use Rattle.standard.proofs.Promise.{Says}
 use Rattle.keystream.specs.Starts.{startNumber}
-use Rattle.mac_registers.specs.Stored.{storedOf, tagOf}
+use Rattle.mac_registers.specs.Stored.{tagOf}
 use Rattle.mac.specs.declared.Start128.{Start128}
 use Rattle.mac.specs.declared.Start256.{Start256}
 use Rattle.mac.specs.Calls.{finishOutcome-128, finishOutcome-256, finishTold-128, finishTold-256, onceOutcome-128, onceOutcome-256, onceOutcome-EIA3, onceTold-128, onceTold-256, startOutcome-128, startOutcome-256, startOutcome-EIA3, startTold-128, startTold-256, tagList, tagNumber-128, tagNumber-256, tagWord, updateNumber, updateTold-128, updateTold-256}
+use Rattle.mac.specs.Reading.{taggedOf-128, taggedOf-256}
 use Rattle.mac.specs.Runs.{Tagged-128, Tagged-256, Updates, joined, more}
 use Rattle.mac.proofs.Runs.{ended}
 use Rattle.mac.proofs.zuc128.new.Reads as zuc128-new
@@ -48,27 +49,27 @@ pub called-zuc256-compute : Says zuc256-compute.Post
 called-zuc256-compute κs a r s p = p
 
 -- updates that begin with a call, by those after it
-module _ {parts : List (List ℕ)} {last : Stored} where
+module _ {parts : List (List ℕ)} {last : Counted Stored} where
   pub called-zuc128-update : Says zuc128-update.Post
-      (λ κs a r s. updateNumber (r .answer) ≡ accepted → Updates formed-128 (storedOf (r .mac .state)) parts last
-      → Updates formed-128 (storedOf (a .0 .state)) (now (a .1 .0) ∷ parts) last)
+      (λ κs a r s. updateNumber (r .answer) ≡ accepted → Updates formed-128 (taggedOf-128 (r .mac)) parts last
+      → Updates formed-128 (taggedOf-128 (a .0)) (now (a .1 .0) ∷ parts) last)
   called-zuc128-update κs a r s p ok rest = more (updateTold-128 r) p ok rest
 
   pub called-zuc256-update : Says zuc256-update.Post
-      (λ κs a r s. updateNumber (r .answer) ≡ accepted → Updates formed (storedOf (r .mac .state)) parts last
-      → Updates formed (storedOf (a .0 .state)) (now (a .1 .0) ∷ parts) last)
+      (λ κs a r s. updateNumber (r .answer) ≡ accepted → Updates formed (taggedOf-256 (r .mac)) parts last
+      → Updates formed (taggedOf-256 (a .0)) (now (a .1 .0) ∷ parts) last)
   called-zuc256-update κs a r s p ok rest = more (updateTold-256 r) p ok rest
 
 -- a closing ends the run of a start and updates
 module _ {parts : List (List ℕ)} where
   pub called-zuc128-finish : (start : Start128) → startNumber (start .answer) ≡ accepted → Says zuc128-finish.Post
-      (λ κs a r s. Updates formed-128 (storedOf (start .mac .state)) parts (storedOf (a .0 .state)) → tagNumber-128 (r .answer) ≡ accepted
+      (λ κs a r s. Updates formed-128 (taggedOf-128 (start .mac)) parts (taggedOf-128 (a .0)) → tagNumber-128 (r .answer) ≡ accepted
       → Tagged-128 (startTold-128 start) (joined parts ++ now (a .1 .0)) (length (joined parts) * 8 + a .1 .1 .0) (tagWord (r .answer)))
   called-zuc128-finish start ok κs a r s p run closed =
-      ended formed-128 finishOutcome-128 (λ tag. tag) parts (startTold-128 start) ok (storedOf (a .0 .state)) run (now (a .1 .0)) (a .1 .1 .0) (finishTold-128 r) p closed
+      ended formed-128 finishOutcome-128 (λ tag. tag) parts (startTold-128 start) ok (taggedOf-128 (a .0)) run (now (a .1 .0)) (a .1 .1 .0) (finishTold-128 r) p closed
 
   pub called-zuc256-finish : (width : ℕ) (start : Start256) → startNumber (start .answer) ≡ accepted → Says zuc256-finish.Post
-      (λ κs a r s. Updates formed (storedOf (start .mac .state)) parts (storedOf (a .0 .state)) → tagNumber-256 (r .answer) ≡ accepted
+      (λ κs a r s. Updates formed (taggedOf-256 (start .mac)) parts (taggedOf-256 (a .0)) → tagNumber-256 (r .answer) ≡ accepted
       → Tagged-256 width (startTold-256 start) (joined parts ++ now (a .1 .0)) (length (joined parts) * 8 + a .1 .1 .0) (tagOf width (tagList (r .answer))))
   called-zuc256-finish width start ok κs a r s p run closed =
-      ended formed finishOutcome-256 (tagOf width) parts (startTold-256 start) ok (storedOf (a .0 .state)) run (now (a .1 .0)) (a .1 .1 .0) (finishTold-256 r) p closed
+      ended formed finishOutcome-256 (tagOf width) parts (startTold-256 start) ok (taggedOf-256 (a .0)) run (now (a .1 .0)) (a .1 .1 .0) (finishTold-256 r) p closed

@@ -6,10 +6,10 @@ use lib.Bits.{bitXor}
 use lib.Dec.{lit<}
 use Rattle.standard.specs.Bits.{M, differs, z}
 use Rattle.standard.specs.Generator.{keystream}
-use Rattle.standard.specs.Integrity.{IV-EIA3, T, tag-EIA3, tag-ZUC256}
+use Rattle.standard.specs.Integrity.{IV-EIA3, T, drawnByTag-EIA3, drawnByTag-ZUC256, tag-EIA3, tag-ZUC256}
 use Rattle.standard.specs.Loading.{load₁₂₈, load₂₅₆, rowOf}
 use Rattle.standard.specs.Notation.{_⊕_}
-use Rattle.standard.specs.Refusals.{Test, bitsTest, ivTest, keyTest, tested, widthTest}
+use Rattle.standard.specs.Refusals.{Test, bitsTest, ivTest, keyTest, limitTest, tested, widthTest}
 use Rattle.standard.proofs.Linear.{EIA3-three, EIA3-two, ZUC256-three, ZUC256-two}
 use Rattle.standard.proofs.Tested.{AllPass, Numbered, accepted-passed, passed}
 use Rattle.mac_registers.proofs.Packed.{tag-back, width-is}
@@ -34,7 +34,7 @@ module _ (key iv : List ℕ) (l : ℕ) where
   pub rule-once-zuc128 : {m : List ℕ} {t : ℕ} → Computed-128 key iv m l t → t ≡ tag-EIA3 (keystream (load₁₂₈ key iv)) m l
   unfolding onceOutcome-128
   rule-once-zuc128 {m} r =
-      once-tag r (keyTest 16 key ∷ ivTest 16 iv ∷ bitsTest l m ∷ []) (lit< tt, (lit< tt, (lit< tt, tt))) 0
+      once-tag r (keyTest 16 key ∷ ivTest 16 iv ∷ bitsTest l m ∷ limitTest 0 (drawnByTag-EIA3 l) ∷ []) (lit< tt, (lit< tt, (lit< tt, (lit< tt, tt)))) 0
       (record { number = 0; tag = tag-EIA3 (keystream (load₁₂₈ key iv)) m l }) refl
 
   pub differ-once-zuc128 : {m n : List ℕ} {t u : ℕ} → Computed-128 key iv m l t → Computed-128 key iv n l u
@@ -84,8 +84,8 @@ module _ (w : ℕ) (key iv : List ℕ) (l : ℕ) where
   pub rule-once-zuc256 : {m : List ℕ} {t : ℕ} → Computed-256 w key iv m l t → t ≡ tag-ZUC256 (w * 8) words-256 m l
   unfolding onceOutcome-256
   rule-once-zuc256 {m} r =
-      let tests : List Test = widthTest w ∷ keyTest 32 key ∷ ivTest 23 iv ∷ bitsTest l m ∷ [] in
-      let low : Numbered tests = (lit< tt, (lit< tt, (lit< tt, (lit< tt, tt)))) in
+      let tests : List Test = widthTest w ∷ keyTest 32 key ∷ ivTest 23 iv ∷ bitsTest l m ∷ limitTest 0 (drawnByTag-ZUC256 (w * 8) l) ∷ [] in
+      let low : Numbered tests = (lit< tt, (lit< tt, (lit< tt, (lit< tt, (lit< tt, tt))))) in
       let tag : ℕ = tag-ZUC256 (w * 8) words-256 m l in
       let answer : Once (List ℕ) = record { number = 0; tag = tagWords w tag } in
       once-tag r tests low noWords answer refl ∙ tag-back (width-is w (once-passed r tests low noWords answer refl .0)) tag

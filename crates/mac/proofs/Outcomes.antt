@@ -1,21 +1,21 @@
 -- Outcomes by cases: the branch of a definition that the tests of the code pick; and a one-shot is a closing with no update before it.
 use mathlib.Core.Bool.{Bool, true, false}
 use mathlib.Core.List.{List, [], _∷_}
-use mathlib.Core.Path.{_≡_, refl, sym, ap, ap₂, _∙_}
-use Prim.Native.Nat.{ℕ, suc, _*_, _≤_}
+use mathlib.Core.Path.{_≡_, refl, sym, ap, ap₂, _∙_, subst}
+use Prim.Native.Nat.{ℕ, suc, _+_, _*_, _/_, _<_, _≤_}
 use native.Mathlib.Nat.{zero-add}
 use native.Mathlib.Omega.{arith}
 use lib.Dec.{eqb, leb}
 use lib.ListN.{length}
 use borrow.Author.Tests.{eqb-true, leb-true, ne-eqb}
 use Rattle.standard.specs.Generator.{State, keystream, started}
-use Rattle.standard.specs.Integrity.{IV-EIA3, tag-EIA3, tag-ZUC256}
+use Rattle.standard.specs.Integrity.{IV-EIA3, drawnAfter-ZUC256, drawnByTag-EIA3, drawnByTag-ZUC256, tag-EIA3, tag-ZUC256}
 use Rattle.standard.specs.Loading.{load₁₂₈, load₂₅₆, rowOf}
 use Rattle.standard.specs.Notation.{_⟨_⟩}
-use Rattle.standard.specs.Refusals.{badBits, badKey, badState, badWidth, bitsTest, ivTest, keyTest, tested, widthTest}
-use Rattle.standard.specs.States.{Stored, formed, formed-128, fromZero, zeroStored}
+use Rattle.standard.specs.Refusals.{badBits, badKey, badState, badWidth, bitsTest, ivTest, keyTest, limitTest, spent, tested, widthTest}
+use Rattle.standard.specs.States.{Counted, Stored, formed, formed-128, fromStart, fromZero, limit, tagFormed, zeroStored}
 use Rattle.standard.proofs.Generator.{stream-is}
-use Rattle.standard.proofs.Table.{and-right}
+use Rattle.standard.proofs.Table.{and-left, and-right}
 use Rattle.standard.proofs.Tested.{tested-map, tested-when}
 use denote.Enum.Declared.{tagOf}
 use mathlib.Core.Logic.{⊎-elim}
@@ -24,8 +24,8 @@ use Rattle.keystream.proofs.StartAnswer.{the-type}
 use Rattle.keystream.specs.declared.StartAnswer.{StartAnswer}
 use Rattle.keystream.specs.declared.StartAnswer.the-variants.{Started, BadWidth, BadKey, BadIv}
 use Rattle.keystream.specs.Starts.{StartOutcome, acceptedStart, refusedStart, startNumber, startTag₂₅₆, start₁₂₈}
-use Rattle.mac_registers.specs.Stored.{tagWords}
-use Rattle.mac_registers.specs.Inner.{Width}
+use Rattle.mac_registers.specs.Stored.{packed, tagWords}
+use Rattle.mac_registers.specs.Inner.{Holds, Width}
 use Rattle.mac_registers.specs.Tagging.{begun-EIA3, begun-ZUC256, closed-EIA3, closed-ZUC256, updated}
 use Rattle.mac_registers.proofs.Packed.{width-is, width-whole}
 use Rattle.mac_tagging.proofs.Rule.{rule-EIA3, rule-ZUC256}
@@ -43,18 +43,18 @@ above BadKey h = (1, refl)
 above BadIv h = (2, refl)
 
 -- a start, by its answer
-module _ (o : StartOutcome) (r : Stored) where
-  pub started-as : (accepted : Stored) → o .number ≡ 0 → r ≡ accepted
+module _ (o : StartOutcome) (r : Counted Stored) where
+  pub started-as : (accepted : Counted Stored) → o .number ≡ 0 → r ≡ accepted
       → record { number = 0; state = r } ≡ tested (passedUp o ∷ []) refusedTag (record { number = 0; state = accepted })
   unfolding tested
-  started-as accepted e f = rw e (ap (λ (x : Stored). record { number = 0; state = x }) f)
+  started-as accepted e f = rw e (ap (λ (x : Counted Stored). record { number = 0; state = x }) f)
 
-  pub refused-as : (accepted : Outcome) (a : StartAnswer) → Refused a → o .number ≡ startNumber a → r ≡ zeroStored
+  pub refused-as : (accepted : Outcome) (a : StartAnswer) → Refused a → o .number ≡ startNumber a → r ≡ fromStart zeroStored
       → record { number = startNumber a; state = r } ≡ tested (passedUp o ∷ []) refusedTag accepted
   unfolding tested
   refused-as accepted a h e f =
       let k = above a h in
-      rw (e, k .1, ne-eqb (suc (k .0)) 0 (λ q. omega arith)) (ap (λ (x : Stored). record { number = suc (k .0); state = x }) f)
+      rw (e, k .1, ne-eqb (suc (k .0)) 0 (λ q. omega arith)) (ap (λ (x : Counted Stored). record { number = suc (k .0); state = x }) f)
 
 -- an answer of ZUC-128 or EIA3 that is neither `Started` nor `BadIv`
 pub key-refused : (a : StartAnswer) → OneOf (1 ∷ 2 ∷ []) (tagOf the-type a) → (startNumber a ≡ badWidth → ⊥) → startNumber a ≡ badKey
@@ -64,19 +64,24 @@ key-refused BadKey h w = refl
 key-refused BadIv h w = absurd (⊎-elim (λ (e : 3 ≡ 1). omega arith) (λ (e : 3 ≡ 2). omega arith) h)
 
 -- a closing, by its tests
-module _ {Tag : Type 0} (none : Tag) (ok : Bool) (s : Stored) (tail : List ℕ) (l : ℕ) (tag : Tag) where
-  pub bad-state : ok ≡ false → refusedClosing none s badState ≡ closing none ok s tail l tag
+module _ {Tag : Type 0} (none : Tag) (ok : Bool) (s : Counted Stored) (words : ℕ) (tail : List ℕ) (l : ℕ) (tag : Tag) where
+  pub bad-state : ok ≡ false → refusedClosing none s badState ≡ closing none ok s words tail l tag
   unfolding closing tested
   bad-state e = rw e refl
 
-  pub bad-bits : ok ≡ true → leb l (length tail * 8) ≡ false → refusedClosing none s badBits ≡ closing none ok s tail l tag
+  pub bad-bits : ok ≡ true → leb l (length tail * 8) ≡ false → refusedClosing none s badBits ≡ closing none ok s words tail l tag
   unfolding closing tested
   bad-bits e f = rw (e, f) refl
 
-  pub closed : ok ≡ true → leb l (length tail * 8) ≡ true → (t : Tag) (z : Stored) → t ≡ tag → z ≡ zeroStored
-      → record { number = 0; tag = t; state = z } ≡ closing none ok s tail l tag
+  pub too-many : ok ≡ true → leb l (length tail * 8) ≡ true → leb (s .count + words) limit ≡ false
+      → refusedClosing none s spent ≡ closing none ok s words tail l tag
   unfolding closing tested
-  closed e f t z et ez = rw (e, f) (ap₂ (λ (x : Tag) (y : Stored). record { number = 0; tag = x; state = y }) et ez)
+  too-many e f g = rw (e, f, g) refl
+
+  pub closed : ok ≡ true → leb l (length tail * 8) ≡ true → leb (s .count + words) limit ≡ true → (t : Tag) (z : Stored) → t ≡ tag → z ≡ zeroStored
+      → record { number = 0; tag = t; state = fromStart z } ≡ closing none ok s words tail l tag
+  unfolding closing tested
+  closed e f g t z et ez = rw (e, f, g) (ap₂ (λ (x : Tag) (y : Stored). record { number = 0; tag = x; state = fromStart y }) et ez)
 
 -- a one-shot's tag
 pub once-EIA3 : (loaded : State) (m : List ℕ) (l : ℕ) → l ≤ length m * 8 → closed-EIA3 (begun-EIA3 (fromZero (started loaded))) m l ≡ tag-EIA3 (keystream loaded) m l
@@ -101,7 +106,7 @@ module _ (key iv : List ℕ) where
   unfolding once-from-128 start₁₂₈ onceOutcome-128 tested
   once-128-is m l =
       tested-map (λ o. once-from-128 o m l) (keyTest 16 key ∷ ivTest 16 iv ∷ []) refusedStart (acceptedStart (load₁₂₈ key iv))
-      ∙ tested-when (keyTest 16 key ∷ ivTest 16 iv ∷ bitsTest l m ∷ []) (refusedOnce 0) _ _
+      ∙ tested-when (keyTest 16 key ∷ ivTest 16 iv ∷ bitsTest l m ∷ limitTest 0 (drawnByTag-EIA3 l) ∷ []) (refusedOnce 0) _ _
       (λ all. ap (λ (x : ℕ). record { number = 0; tag = x }) (once-EIA3 (load₁₂₈ key iv) m l (leb-true l (length m * 8) (all .1 .1 .0))))
 
   module _ (w : ℕ) where
@@ -113,7 +118,7 @@ module _ (key iv : List ℕ) where
     unfolding once-from-256 startTag₂₅₆ onceOutcome-256 tested
     once-256-is m l =
         tested-map (λ o. once-from-256 w o m l) (widthTest w ∷ keyTest 32 key ∷ ivTest 23 iv ∷ []) refusedStart (acceptedStart (load₂₅₆ (rowOf w) key iv))
-        ∙ tested-when (widthTest w ∷ keyTest 32 key ∷ ivTest 23 iv ∷ bitsTest l m ∷ []) (refusedOnce noWords) _ _
+        ∙ tested-when (widthTest w ∷ keyTest 32 key ∷ ivTest 23 iv ∷ bitsTest l m ∷ limitTest 0 (drawnByTag-ZUC256 (w * 8) l) ∷ []) (refusedOnce noWords) _ _
         (λ all. ap (λ (x : ℕ). record { number = 0; tag = tagWords w x })
         (once-ZUC256 (width-is w (all .0)) (load₂₅₆ (rowOf w) key iv) m l (leb-true l (length m * 8) (all .1 .1 .1 .0))))
 
@@ -128,9 +133,18 @@ module _ (count bearer direction : ℕ) (key : List ℕ) where
   once-EIA3-is m l = refl
 
 -- a ZUC-128 or EIA3 state is of width 4
-pub formed-four : (s : Stored) → formed-128 s ≡ true → s .width ≡ 4
-unfolding formed-128
-formed-four s e = eqb-true (s .width) 4 (and-right (formed s) (eqb (s .width) 4) e)
+pub formed-four : (s : Counted Stored) → tagFormed formed-128 s ≡ true → s .held .width ≡ 4
+unfolding tagFormed formed-128
+formed-four s e = eqb-true (s .held .width) 4 (and-right (formed (s .held)) (eqb (s .held .width) 4) (and-left (formed-128 (s .held)) (leb (s .count) limit) e))
+
+-- fewer bytes wait than a block has
+pub holds-short : {s : Stored} → Holds s → s .cnt < s .width
+unfolding packed
+holds-short {s} h = subst (λ (n : ℕ). n < s .width) (ap (λ (x : Stored). x .cnt) (h .packs)) (h .good .short)
+
+-- what the start of a ZUC-256 tag has drawn
+pub begun-words : {w : ℕ} → Width w → w / 4 * 3 ≡ drawnAfter-ZUC256 (w * 8) 0
+begun-words v = ⊎-elim (λ e. rw e refl) (λ o. ⊎-elim (λ e. rw e refl) (λ e. rw e refl) o) v
 
 pub spelled-tag : (t : List ℕ) → length t ≡ 2 → t ⟨ 0 ⟩ ∷ t ⟨ 1 ⟩ ∷ [] ≡ t
 spelled-tag (a ∷ b ∷ []) e = refl

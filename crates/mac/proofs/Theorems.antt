@@ -3,7 +3,7 @@
 use mathlib.Core.List.{List}
 use mathlib.Core.Logic.{inl}
 use mathlib.Core.Path.{_≡_, refl, sym, ap, ap₂, _∙_}
-use Prim.Native.Nat.{ℕ, _*_, _<_, _≤_}
+use Prim.Native.Nat.{ℕ, _+_, _*_, _<_, _≤_}
 use lib.Bits.{bitXor}
 use lib.ListN.{length}
 use Rattle.standard.specs.Notation.{_⊕_}
@@ -14,36 +14,39 @@ use Rattle.standard.specs.Loading.{load₁₂₈, load₂₅₆, rowOf}
 use Rattle.standard.proofs.Linear.{EIA3-three, EIA3-two, M-xor₃, ZUC256-three, ZUC256-two, xorBytes}
 use Rattle.mac_registers.specs.Stored.{packed, tagOf, tagWords, taggingOf}
 use Rattle.mac_registers.specs.Inner.{Width}
-use Rattle.standard.specs.States.{formed, formed-128, fromZero}
+use Rattle.standard.specs.States.{Counted, Stored, formed, formed-128, fromZero, limit, tagFormed}
 use Rattle.mac_registers.specs.Tagging.{begun-EIA3, begun-ZUC256, closed-EIA3, closed-ZUC256, updated}
 use Rattle.mac_registers.proofs.Packed.{tag-back, width-whole}
 use Rattle.mac_tagging.proofs.Rule.{rule-EIA3, rule-ZUC256}
-use Rattle.mac.specs.Calls.{Closing, Outcome, closing, finishOutcome-128, finishOutcome-256, noWords, startOutcome-128, startOutcome-256, startOutcome-EIA3}
+use Rattle.mac.specs.Calls.{Closing, Outcome, begunTag-128, begunTag-256, closeWords-128, closeWords-256, closing, finishOutcome-128, finishOutcome-256, noWords, startOutcome-128, startOutcome-256, startOutcome-EIA3}
 use Rattle.mac.specs.Runs.{Tagged-128, Tagged-256, joined}
 use Rattle.standard.proofs.Generator.{stream-is}
 use Rattle.mac.proofs.Runs.{at-state, closing-accepted, start-128, start-256, start-EIA3, updates-are}
 
 -- ZUC-128 and EIA3, from any start whose accepted state is begun over what was loaded
-module _ (loaded : State) (start : Outcome) (begun : start .number ≡ 0 → start .state ≡ packed 4 (begun-EIA3 (fromZero (started loaded)))) where
+module _ (loaded : State) (start : Outcome) (begun : start .number ≡ 0 → start .state ≡ begunTag-128 loaded .state) where
   pub tag-128 : {message : List ℕ} {L tag : ℕ} → Tagged-128 start message L tag → tag ≡ tag-EIA3 (keystream loaded) message L
   unfolding finishOutcome-128
   tag-128 {message} {L} r =
       r .tag-is
       ∙ ap (λ (x : Closing ℕ). x .tag) (r .closes)
-      ∙ ends .1
+      ∙ ends .2
       ∙ at-state (λ w st. closed-EIA3 st (r .tail) (r .l)) (inl refl) (updated 32 (begun-EIA3 (fromZero (started loaded))) (joined (r .parts))) after
       ∙ rule-EIA3 (fromZero (started loaded)) (joined (r .parts)) (r .tail) (r .l) (ends .0)
       ∙ ap₂ (tag-EIA3 (wordAt (started loaded))) (sym (r .message-is)) (sym (r .L-is))
       ∙ ap (λ (w : ℕ → ℕ). tag-EIA3 w message L) (sym (stream-is loaded))
     where
       tag : ℕ
-      tag = closed-EIA3 (taggingOf (r .last)) (r .tail) (r .l)
+      tag = closed-EIA3 (taggingOf (r .last .held)) (r .tail) (r .l)
 
-      ends : (r .l ≤ length (r .tail) * 8) × (closing 0 (formed-128 (r .last)) (r .last) (r .tail) (r .l) tag .tag ≡ tag)
-      ends = closing-accepted 0 (formed-128 (r .last)) (r .last) (r .tail) (r .l) tag (ap (λ (x : Closing ℕ). x .number) (sym (r .closes)) ∙ r .accepted)
+      words : ℕ
+      words = closeWords-128 (r .last .held) (r .l)
 
-      after : r .last ≡ packed 4 (updated 32 (begun-EIA3 (fromZero (started loaded))) (joined (r .parts)))
-      after = updates-are (inl refl) (r .updates) (begun-EIA3 (fromZero (started loaded))) (begun (r .started))
+      ends : (r .l ≤ length (r .tail) * 8) × (r .last .count + words ≤ limit) × (closing 0 (tagFormed formed-128 (r .last)) (r .last) words (r .tail) (r .l) tag .tag ≡ tag)
+      ends = closing-accepted 0 (tagFormed formed-128 (r .last)) (r .last) words (r .tail) (r .l) tag (ap (λ (x : Closing ℕ). x .number) (sym (r .closes)) ∙ r .accepted)
+
+      after : r .last .held ≡ packed 4 (updated 32 (begun-EIA3 (fromZero (started loaded))) (joined (r .parts)))
+      after = updates-are (inl refl) (r .updates) (begun-EIA3 (fromZero (started loaded))) (ap (λ (x : Counted Stored). x .held) (begun (r .started)))
 
   -- two messages of one length
   pub two-128 : {m n : List ℕ} {L t u : ℕ} → Tagged-128 start m L t → Tagged-128 start n L u
@@ -58,14 +61,14 @@ module _ (loaded : State) (start : Outcome) (begun : start .number ≡ 0 → sta
 
 -- ZUC-256 at a width, likewise
 module _ (loaded : State) (w : ℕ) (v : Width w) (start : Outcome)
-    (begun : start .number ≡ 0 → start .state ≡ packed w (begun-ZUC256 (w * 8) (fromZero (started loaded)))) where
+    (begun : start .number ≡ 0 → start .state ≡ begunTag-256 w loaded .state) where
   pub tag-256 : {message : List ℕ} {L tag : ℕ} → Tagged-256 w start message L tag → tag ≡ tag-ZUC256 (w * 8) (keystream loaded) message L
   unfolding finishOutcome-256
   tag-256 {message} {L} r =
       r .tag-is
       ∙ ap (tagOf w)
       (ap (λ (x : Closing (List ℕ)). x .tag) (r .closes)
-      ∙ ends .1
+      ∙ ends .2
       ∙ at-state (λ x st. tagWords x (closed-ZUC256 (x * 8) st (r .tail) (r .l))) v (updated (w * 8) (begun-ZUC256 (w * 8) (fromZero (started loaded))) (joined (r .parts))) after)
       ∙ tag-back v (closed-ZUC256 (w * 8) (updated (w * 8) (begun-ZUC256 (w * 8) (fromZero (started loaded))) (joined (r .parts))) (r .tail) (r .l))
       ∙ rule-ZUC256 (w * 8) (width-whole v .0) (width-whole v .1) (fromZero (started loaded)) (joined (r .parts)) (r .tail) (r .l) (ends .0)
@@ -73,13 +76,16 @@ module _ (loaded : State) (w : ℕ) (v : Width w) (start : Outcome)
       ∙ ap (λ (x : ℕ → ℕ). tag-ZUC256 (w * 8) x message L) (sym (stream-is loaded))
     where
       tag : List ℕ
-      tag = tagWords (r .last .width) (closed-ZUC256 (r .last .width * 8) (taggingOf (r .last)) (r .tail) (r .l))
+      tag = tagWords (r .last .held .width) (closed-ZUC256 (r .last .held .width * 8) (taggingOf (r .last .held)) (r .tail) (r .l))
 
-      ends : (r .l ≤ length (r .tail) * 8) × (closing noWords (formed (r .last)) (r .last) (r .tail) (r .l) tag .tag ≡ tag)
-      ends = closing-accepted noWords (formed (r .last)) (r .last) (r .tail) (r .l) tag (ap (λ (x : Closing (List ℕ)). x .number) (sym (r .closes)) ∙ r .accepted)
+      words : ℕ
+      words = closeWords-256 (r .last .held) (r .l)
 
-      after : r .last ≡ packed w (updated (w * 8) (begun-ZUC256 (w * 8) (fromZero (started loaded))) (joined (r .parts)))
-      after = updates-are v (r .updates) (begun-ZUC256 (w * 8) (fromZero (started loaded))) (begun (r .started))
+      ends : (r .l ≤ length (r .tail) * 8) × (r .last .count + words ≤ limit) × (closing noWords (tagFormed formed (r .last)) (r .last) words (r .tail) (r .l) tag .tag ≡ tag)
+      ends = closing-accepted noWords (tagFormed formed (r .last)) (r .last) words (r .tail) (r .l) tag (ap (λ (x : Closing (List ℕ)). x .number) (sym (r .closes)) ∙ r .accepted)
+
+      after : r .last .held ≡ packed w (updated (w * 8) (begun-ZUC256 (w * 8) (fromZero (started loaded))) (joined (r .parts)))
+      after = updates-are v (r .updates) (begun-ZUC256 (w * 8) (fromZero (started loaded))) (ap (λ (x : Counted Stored). x .held) (begun (r .started)))
 
   pub two-256 : {m n : List ℕ} {L t u : ℕ} → Tagged-256 w start m L t → Tagged-256 w start n L u
       → t ⊕ u ≡ T (w * 8) (z (keystream loaded)) (w * 8) (differs m n) L

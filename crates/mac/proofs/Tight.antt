@@ -6,10 +6,11 @@ use Prim.Native.Nat.{ℕ}
 use lib.Dec.{eqb}
 use Rattle.standard.proofs.Promise.{AsksNothing, Tight}
 use Rattle.standard.specs.Notation.{_⟨_⟩, if_then_else_}
-use Rattle.standard.specs.Refusals.{accepted, badIV, badKey, badState, badWidth}
+use Rattle.standard.specs.Refusals.{accepted, badBits, badIV, badKey, badState, badWidth}
+use Rattle.zuc.specs.declared.Generator.{Generator}
 use Rattle.zuc.specs.declared.Zuc.{Zuc}
 use Rattle.zuc.proofs.Turning.{read-once}
-use Rattle.zuc.specs.Reading.{heldOf}
+use Rattle.zuc.specs.Reading.{countedOf}
 use Rattle.keystream.specs.declared.StartAnswer.{StartAnswer}
 use Rattle.keystream.specs.Starts.{startNumber}
 use Rattle.keystream.proofs.Tight.{start-tight}
@@ -59,37 +60,53 @@ state-back {s} {s′} e =
 -- an answer is known by what is told of it
 start-answer : (z : Zuc) (a b : StartAnswer) → startNumber a ≡ startNumber b → a ≡ b
 start-answer z a b e =
-    ap (λ x. x .answer) (start-tight (record { answer = a; state = z }) (record { answer = b; state = z }) (λ i. record { number = e i; state = heldOf z }))
+    let g : Generator = record { z = z; count = 0 } in
+    ap (λ x. x .answer) (start-tight (record { answer = a; state = g }) (record { answer = b; state = g }) (λ i. record { number = e i; state = countedOf g }))
 
 updateAnswer : ℕ → UpdateAnswer
-updateAnswer n = if eqb n accepted then update-answer.Done else update-answer.BadState
+updateAnswer n = if eqb n accepted then update-answer.Done else if eqb n badState then update-answer.BadState else update-answer.Spent
 
 update-back : (a : UpdateAnswer) → updateAnswer (updateNumber a) ≡ a
 unfolding updateAnswer
 update-back update-answer.Done = refl
 update-back update-answer.BadState = refl
+update-back update-answer.Spent = refl
 
 tagAnswer-128 : ℕ → ℕ → Tag128
-tagAnswer-128 n x = if eqb n accepted then tag-128.Tag x else if eqb n badState then tag-128.BadState else tag-128.BadBits
+tagAnswer-128 n x =
+    if eqb n accepted then tag-128.Tag x
+    else if eqb n badState then tag-128.BadState
+    else if eqb n badBits then tag-128.BadBits
+    else tag-128.Spent
 
 tag-back-128 : (a : Tag128) → tagAnswer-128 (tagNumber-128 a) (tagWord a) ≡ a
 unfolding tagAnswer-128
 tag-back-128 (tag-128.Tag x) = refl
 tag-back-128 tag-128.BadState = refl
 tag-back-128 tag-128.BadBits = refl
+tag-back-128 tag-128.Spent = refl
 
 tagAnswer-256 : ℕ → List ℕ → Tag256
-tagAnswer-256 n x = if eqb n accepted then tag-256.Tag (x ⟨ 0 ⟩) (x ⟨ 1 ⟩) else if eqb n badState then tag-256.BadState else tag-256.BadBits
+tagAnswer-256 n x =
+    if eqb n accepted then tag-256.Tag (x ⟨ 0 ⟩) (x ⟨ 1 ⟩)
+    else if eqb n badState then tag-256.BadState
+    else if eqb n badBits then tag-256.BadBits
+    else tag-256.Spent
 
 tag-back-256 : (a : Tag256) → tagAnswer-256 (tagNumber-256 a) (tagList a) ≡ a
 unfolding tagAnswer-256
 tag-back-256 (tag-256.Tag x y) = refl
 tag-back-256 tag-256.BadState = refl
 tag-back-256 tag-256.BadBits = refl
+tag-back-256 tag-256.Spent = refl
 
 onceAnswer-128 : ℕ → ℕ → Once128
 onceAnswer-128 n x =
-    if eqb n accepted then once-128.Tag x else if eqb n badKey then once-128.BadKey else if eqb n badIV then once-128.BadIv else once-128.BadBits
+    if eqb n accepted then once-128.Tag x
+    else if eqb n badKey then once-128.BadKey
+    else if eqb n badIV then once-128.BadIv
+    else if eqb n badBits then once-128.BadBits
+    else once-128.Spent
 
 once-back-128 : (a : Once128) → onceAnswer-128 (onceTold-128 a .number) (onceTold-128 a .tag) ≡ a
 unfolding onceAnswer-128
@@ -97,6 +114,7 @@ once-back-128 (once-128.Tag x) = refl
 once-back-128 once-128.BadKey = refl
 once-back-128 once-128.BadIv = refl
 once-back-128 once-128.BadBits = refl
+once-back-128 once-128.Spent = refl
 
 onceAnswer-256 : ℕ → List ℕ → Once256
 onceAnswer-256 n x =
@@ -104,7 +122,8 @@ onceAnswer-256 n x =
     else if eqb n badWidth then once-256.BadWidth
     else if eqb n badKey then once-256.BadKey
     else if eqb n badIV then once-256.BadIv
-    else once-256.BadBits
+    else if eqb n badBits then once-256.BadBits
+    else once-256.Spent
 
 once-back-256 : (a : Once256) → onceAnswer-256 (onceTold-256 a .number) (onceTold-256 a .tag) ≡ a
 unfolding onceAnswer-256
@@ -113,48 +132,49 @@ once-back-256 once-256.BadWidth = refl
 once-back-256 once-256.BadKey = refl
 once-back-256 once-256.BadIv = refl
 once-back-256 once-256.BadBits = refl
+once-back-256 once-256.Spent = refl
 
 -- what is told tells what is returned
 start-128 : (r r′ : Start128) → startTold-128 r ≡ startTold-128 r′ → r ≡ r′
 start-128 r r′ e =
     λ i. record {
       answer = start-answer (r .mac .state .g) (r .answer) (r′ .answer) (λ j. e j .number) i;
-      mac = record { state = state-back (λ j. e j .state) i };
+      mac = record { state = state-back (λ j. e j .state .held) i; count = e i .state .count };
     }
 
 start-256 : (r r′ : Start256) → startTold-256 r ≡ startTold-256 r′ → r ≡ r′
 start-256 r r′ e =
     λ i. record {
       answer = start-answer (r .mac .state .g) (r .answer) (r′ .answer) (λ j. e j .number) i;
-      mac = record { state = state-back (λ j. e j .state) i };
+      mac = record { state = state-back (λ j. e j .state .held) i; count = e i .state .count };
     }
 
 update-128 : (r r′ : Update128) → updateTold-128 r ≡ updateTold-128 r′ → r ≡ r′
 update-128 r r′ e =
     λ i. record {
       answer = (sym (update-back (r .answer)) ∙ ap (λ (o : Outcome). updateAnswer (o .number)) e ∙ update-back (r′ .answer)) i;
-      mac = record { state = state-back (λ j. e j .state) i };
+      mac = record { state = state-back (λ j. e j .state .held) i; count = e i .state .count };
     }
 
 update-256 : (r r′ : Update256) → updateTold-256 r ≡ updateTold-256 r′ → r ≡ r′
 update-256 r r′ e =
     λ i. record {
       answer = (sym (update-back (r .answer)) ∙ ap (λ (o : Outcome). updateAnswer (o .number)) e ∙ update-back (r′ .answer)) i;
-      mac = record { state = state-back (λ j. e j .state) i };
+      mac = record { state = state-back (λ j. e j .state .held) i; count = e i .state .count };
     }
 
 finish-128 : (r r′ : Finish128) → finishTold-128 r ≡ finishTold-128 r′ → r ≡ r′
 finish-128 r r′ e =
     λ i. record {
       answer = (sym (tag-back-128 (r .answer)) ∙ ap (λ (o : Closing ℕ). tagAnswer-128 (o .number) (o .tag)) e ∙ tag-back-128 (r′ .answer)) i;
-      mac = record { state = state-back (λ j. e j .state) i };
+      mac = record { state = state-back (λ j. e j .state .held) i; count = e i .state .count };
     }
 
 finish-256 : (r r′ : Finish256) → finishTold-256 r ≡ finishTold-256 r′ → r ≡ r′
 finish-256 r r′ e =
     λ i. record {
       answer = (sym (tag-back-256 (r .answer)) ∙ ap (λ (o : Closing (List ℕ)). tagAnswer-256 (o .number) (o .tag)) e ∙ tag-back-256 (r′ .answer)) i;
-      mac = record { state = state-back (λ j. e j .state) i };
+      mac = record { state = state-back (λ j. e j .state .held) i; count = e i .state .count };
     }
 
 once-tight-128 : (r r′ : Once128) → onceTold-128 r ≡ onceTold-128 r′ → r ≡ r′

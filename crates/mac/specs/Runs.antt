@@ -5,13 +5,13 @@ use mathlib.Core.Path.{_≡_}
 use Prim.Native.Nat.{ℕ, _+_, _*_}
 use lib.ListN.{length}
 use Rattle.mac_registers.specs.Stored.{tagOf}
-use Rattle.standard.specs.States.{Stored, formed, formed-128}
+use Rattle.standard.specs.States.{Counted, Stored, formed, formed-128, tagFormed}
 use Rattle.mac.specs.Calls.{Closing, Once, Outcome, finishOutcome-128, finishOutcome-256, onceOutcome-128, onceOutcome-256, onceOutcome-EIA3, updateOutcome}
 
 -- updates one after the other, each accepted: o is what is told of a call's result, equal to what the contract says
-pub data Updates (test : Stored → Bool) : Stored → List (List ℕ) → Stored → Type 0 where
-  none : {s : Stored} → Updates test s [] s
-  more : {s s′ : Stored} {part : List ℕ} {parts : List (List ℕ)} (o : Outcome) → o ≡ updateOutcome (test s) s part → o .number ≡ 0
+pub data Updates (test : Stored → Bool) : Counted Stored → List (List ℕ) → Counted Stored → Type 0 where
+  none : {s : Counted Stored} → Updates test s [] s
+  more : {s s′ : Counted Stored} {part : List ℕ} {parts : List (List ℕ)} (o : Outcome) → o ≡ updateOutcome (tagFormed test s) s part → o .number ≡ 0
       → Updates test (o .state) parts s′ → Updates test s (part ∷ parts) s′
 
 -- the parts of a message, joined
@@ -20,7 +20,7 @@ joined [] = []
 joined (part ∷ parts) = part ++ joined parts
 
 -- a tag of a message of L bits, from a start's outcome: by the test of its states, what its closing answers, and the number in the tag's words
-pub record Tagged {Tag : Type 0} (test : Stored → Bool) (finishOutcome : Stored → List ℕ → ℕ → Closing Tag) (numberIn : Tag → ℕ)
+pub record Tagged {Tag : Type 0} (test : Stored → Bool) (finishOutcome : Counted Stored → List ℕ → ℕ → Closing Tag) (numberIn : Tag → ℕ)
     (start : Outcome) (message : List ℕ) (L tag : ℕ) : Type 0 where
   pub parts : List (List ℕ)
   pub tail : List ℕ
@@ -28,7 +28,7 @@ pub record Tagged {Tag : Type 0} (test : Stored → Bool) (finishOutcome : Store
   pub message-is : message ≡ joined parts ++ tail
   pub L-is : L ≡ length (joined parts) * 8 + l
   pub started : start .number ≡ 0
-  pub last : Stored
+  pub last : Counted Stored
   pub updates : Updates test (start .state) parts last
   pub end : Closing Tag
   pub closes : end ≡ finishOutcome last tail l
@@ -43,7 +43,7 @@ abbrev pub Tagged-256 : ℕ → Outcome → List ℕ → ℕ → ℕ → Type 0
 Tagged-256 width = Tagged formed finishOutcome-256 (tagOf width)
 
 -- that a start's calls are accepted over these very parts, this tail and these bits of it, and give some tag
-abbrev pub Accepts : {Tag : Type 0} → (Stored → Bool) → (Stored → List ℕ → ℕ → Closing Tag) → (Tag → ℕ) → Outcome → List (List ℕ) → List ℕ → ℕ → Type 0
+abbrev pub Accepts : {Tag : Type 0} → (Stored → Bool) → (Counted Stored → List ℕ → ℕ → Closing Tag) → (Tag → ℕ) → Outcome → List (List ℕ) → List ℕ → ℕ → Type 0
 Accepts test finishOutcome numberIn start parts tail l =
     (tag : ℕ) × (r : Tagged test finishOutcome numberIn start (joined parts ++ tail) (length (joined parts) * 8 + l) tag)
     × ((r .parts ≡ parts) × (r .tail ≡ tail) × (r .l ≡ l))

@@ -46,7 +46,7 @@ pub fn new(count: u32, bearer: u8, direction: u8, key: &[u8]) -> Start128
     begin_from(keystream::zuc128::new(key, &v))
 }
 
-// A whole message at once, or BadKey, BadBits, in this order.
+// A whole message at once, or BadKey, BadBits, Spent, in this order.
 pub fn compute(
     count: u32,
     bearer: u8,

@@ -2,12 +2,11 @@
 ghost use mathlib.Core.Bool.{true};
 ghost use mathlib.Core.Path.{_≡_};
 ghost use Rattle.keystream.specs.Starts.{startTold};
-ghost use Rattle.mac.specs.Calls.{onceTold-128, startTold-128, updateOutcome, updateTold};
-ghost use Rattle.mac.specs.Inner.{Live, begun-128, once-from-128};
+ghost use Rattle.mac.specs.Calls.{onceTold-128, refusedUpdate, startTold-128, updateNumber, updateOutcome, updateTold};
+ghost use Rattle.mac.specs.Inner.{Live, Within, begun-128, once-from-128};
+ghost use Rattle.mac.specs.Reading.{taggedOf, taggedOf-128};
 ghost use Rattle.standard.specs.Refusals.{badWidth};
-ghost use Rattle.standard.specs.States.{formed-128, zeroStored};
-ghost use Rattle.mac_registers.specs.Inner.{Holds};
-ghost use Rattle.mac_registers.specs.Stored.{storedOf};
+ghost use Rattle.standard.specs.States.{formed, formed-128, fromStart, tagFormed, zeroStored};
 use keystream::Start;
 use keystream::StartAnswer;
 use mac_registers::TagState;
@@ -15,7 +14,9 @@ use mac_registers::forms::is_formed;
 use mac_registers::forms::zero_state;
 use mac_tagging::closing::close_128;
 use mac_tagging::updates::begin_128;
+use words::LIMIT;
 use words::bits_fit;
+use words::has_left;
 use zuc::boxes::s0;
 use zuc::boxes::s1;
 
@@ -24,12 +25,15 @@ pub mod zuc128;
 pub mod zuc256;
 
 // The state of a ZUC-128 or EIA3 tag, and that of a ZUC-256 tag: two types, so that neither is closed by the other's rule unawares.
+// Beside each, how many words its start has drawn (request 2026-09).
 pub struct Mac128 {
     pub state: TagState,
+    pub count: usize,
 }
 
 pub struct Mac256 {
     pub state: TagState,
+    pub count: usize,
 }
 
 // A start: its answer, and the state, of zeros where it was refused.
@@ -47,11 +51,13 @@ pub struct Start256 {
 pub enum UpdateAnswer {
     Done,
     BadState,
+    Spent,
 }
 
 pub struct Update {
     pub answer: UpdateAnswer,
     pub state: TagState,
+    pub count: usize,
 }
 
 pub struct Update128 {
@@ -69,6 +75,7 @@ pub enum Tag128 {
     Tag(u32),
     BadState,
     BadBits,
+    Spent,
 }
 
 pub struct Finish128 {
@@ -81,6 +88,7 @@ pub enum Tag256 {
     Tag(u64, u64),
     BadState,
     BadBits,
+    Spent,
 }
 
 pub struct Finish256 {
@@ -94,6 +102,7 @@ pub enum Once128 {
     BadKey,
     BadIv,
     BadBits,
+    Spent,
 }
 
 pub enum Once256 {
@@ -102,32 +111,55 @@ pub enum Once256 {
     BadKey,
     BadIv,
     BadBits,
+    Spent,
 }
 
-// Whether a state is well formed, and of 4 bytes.
-fn is_formed_128(state: TagState) -> bool
-    ensures { λ r. ⌜ (r ≡ formed-128 (storedOf state)) × (r ≡ true → Holds (storedOf state)) ⌝ }
+// Whether a state is well formed, and its count within the limit.
+fn is_formed_256(state: TagState, count: usize) -> bool
+    ensures { λ r. ⌜ (r ≡ tagFormed formed (taggedOf state count)) × (r ≡ true → Within (taggedOf state count)) ⌝ }
 {
     if !is_formed(state) {
         return false;
     }
-    let width = state.width;
-    if width != 4 {
+    if count > LIMIT {
         return false;
     }
     true
 }
 
+// And of 4 bytes.
+fn is_formed_128(state: TagState, count: usize) -> bool
+    ensures { λ r. ⌜ (r ≡ tagFormed formed-128 (taggedOf state count)) × (r ≡ true → Within (taggedOf state count)) ⌝ }
+{
+    let width = state.width;
+    if width != 4 {
+        return false;
+    }
+    is_formed_256(state, count)
+}
+
+// A refused update hands back the caller's state.
+fn refused_update(answer: UpdateAnswer, state: TagState, count: usize) -> Update
+    ensures { λ r. ⌜ updateTold r ≡ refusedUpdate (taggedOf state count) (updateNumber answer) ⌝ }
+{
+    Update {
+        answer,
+        state,
+        count,
+    }
+}
+
 // What both kinds of update do once their state has been looked at.
-fn update_state(ok: bool, state: TagState, message: &[u8]) -> Update
-    requires { ⌜ (ok ≡ true → Holds (storedOf state)) ⌝ }
-    ensures { λ r. ⌜ updateTold r ≡ updateOutcome ok (storedOf state) (now (message .entry)) ⌝ }
+fn update_state(ok: bool, state: TagState, count: usize, message: &[u8]) -> Update
+    requires { ⌜ (ok ≡ true → Within (taggedOf state count)) ⌝ }
+    ensures { λ r. ⌜ updateTold r ≡ updateOutcome ok (taggedOf state count) (now (message .entry)) ⌝ }
 {
     if !ok {
-        return Update {
-            answer: UpdateAnswer::BadState,
-            state,
-        };
+        return refused_update(UpdateAnswer::BadState, state, count);
+    }
+    let drawn = mac_counts::to_update(state.width, state.cnt, message.len());
+    if !has_left(count, drawn) {
+        return refused_update(UpdateAnswer::Spent, state, count);
     }
     let t0 = s0();
     let t1 = s1();
@@ -135,16 +167,17 @@ fn update_state(ok: bool, state: TagState, message: &[u8]) -> Update
     Update {
         answer: UpdateAnswer::Done,
         state: next,
+        count: count + drawn,
     }
 }
 
 fn refused_128(answer: StartAnswer) -> Start128
-    ensures { λ r. ⌜ (r .answer ≡ answer) × (storedOf (r .mac .state) ≡ zeroStored) ⌝ }
+    ensures { λ r. ⌜ (r .answer ≡ answer) × (taggedOf-128 (r .mac) ≡ fromStart zeroStored) ⌝ }
 {
     let state = zero_state();
     Start128 {
         answer,
-        mac: Mac128 { state },
+        mac: Mac128 { state, count: 0 },
     }
 }
 
@@ -154,7 +187,7 @@ fn begin_from(start: Start) -> Start128
     ensures { λ r. ⌜ startTold-128 r ≡ begun-128 (startTold start) ⌝ }
 {
     let answer = start.answer;
-    let g = start.state;
+    let g = start.state.z;
     match answer {
         StartAnswer::Started => {
             let t0 = s0();
@@ -162,7 +195,7 @@ fn begin_from(start: Start) -> Start128
             let state = begin_128(&t0, &t1, g);
             Start128 {
                 answer: StartAnswer::Started,
-                mac: Mac128 { state },
+                mac: Mac128 { state, count: 2 },
             }
         }
         _ => refused_128(answer),
@@ -175,11 +208,14 @@ fn tag_from(start: Start, message: &[u8], l: usize) -> Once128
     ensures { λ r. ⌜ onceTold-128 r ≡ once-from-128 (startTold start) (now (message .entry)) l ⌝ }
 {
     let answer = start.answer;
-    let g = start.state;
+    let g = start.state.z;
     match answer {
         StartAnswer::Started => {
             if !bits_fit(l, message.len()) {
                 return Once128::BadBits;
+            }
+            if !has_left(0, mac_counts::by_tag_128(l)) {
+                return Once128::Spent;
             }
             let t0 = s0();
             let t1 = s1();

@@ -1,39 +1,46 @@
--- An outcome by the two tests: which refusal, or the mask; and each mode's outcome as the inner function's.
+-- An outcome by its tests: which refusal, or the mask; and each mode's outcome as the inner function's.
 use mathlib.Core.Bool.{true, false}
 use mathlib.Core.List.{List}
 use mathlib.Core.Path.{_≡_, refl, sym, ap, _∙_}
-use Prim.Native.Nat.{ℕ, _*_}
+use Prim.Native.Nat.{ℕ, _+_, _*_}
 use lib.Dec.{leb}
 use lib.ListN.{length}
 use Rattle.standard.specs.Confidentiality.{maskClean, wordsToMask}
-use Rattle.standard.specs.Refusals.{badBits, badState, tested}
+use Rattle.standard.specs.Refusals.{badBits, badState, spent, tested}
 use Rattle.standard.specs.Generator.{wordAt}
-use Rattle.standard.specs.States.{Held, heldFormed, moved}
+use Rattle.standard.specs.States.{Counted, Held, generatorFormed, limit, moved}
 use Rattle.standard.proofs.Kept.{crateEnd}
 use Rattle.standard.proofs.Masking.{crate-clean}
 use Rattle.mask.specs.Inner.{outcomeTo}
-use Rattle.mask.specs.Outcome.{Outcome, cleanOutcome, crateOutcome, drawn, maskTested, refused}
+use Rattle.mask.specs.Outcome.{cleanOutcome, crateOutcome, maskTested, refused}
 
-module _ (h : Held) (L : ℕ) (buffer : List ℕ) where
-  pub bad-state : (o : Outcome) → heldFormed h ≡ false → refused h buffer badState ≡ maskTested h L buffer o
+module _ (g : Counted Held) (words L : ℕ) (buffer masked : List ℕ) where
+  pub bad-state : generatorFormed g ≡ false → refused g buffer badState ≡ maskTested g words L buffer masked
   unfolding maskTested tested
-  bad-state o w = rw w refl
+  bad-state w = rw w refl
 
-  pub bad-bits : (o : Outcome) → heldFormed h ≡ true → leb L (length buffer * 8) ≡ false → refused h buffer badBits ≡ maskTested h L buffer o
+  pub bad-bits : generatorFormed g ≡ true → leb L (length buffer * 8) ≡ false → refused g buffer badBits ≡ maskTested g words L buffer masked
   unfolding maskTested tested
-  bad-bits o w l = rw (w, l) refl
+  bad-bits w l = rw (w, l) refl
+
+  pub too-many : generatorFormed g ≡ true → leb L (length buffer * 8) ≡ true → leb (g .count + words) limit ≡ false
+      → refused g buffer spent ≡ maskTested g words L buffer masked
+  unfolding maskTested tested
+  too-many w l m = rw (w, l, m) refl
 
   -- part by part, so that each is held by a fact of its own
-  pub accepted : (count : ℕ) (masked : List ℕ) {n : ℕ} {k : Held} {out : List ℕ} → heldFormed h ≡ true → leb L (length buffer * 8) ≡ true
-      → n ≡ count → k ≡ moved count h → out ≡ masked
-      → record { number = 0; count = n; state = k; buffer = out } ≡ maskTested h L buffer (drawn count h masked)
+  pub accepted : {n c : ℕ} {k : Held} {out : List ℕ} → generatorFormed g ≡ true → leb L (length buffer * 8) ≡ true → leb (g .count + words) limit ≡ true
+      → n ≡ words → c ≡ g .count + words → k ≡ moved words (g .held) → out ≡ masked
+      → record { number = 0; count = n; state = record { held = k; count = c }; buffer = out } ≡ maskTested g words L buffer masked
   unfolding maskTested tested
-  accepted count masked w l en es eb = rw (w, l) (λ i. record { number = 0; count = en i; state = es i; buffer = eb i })
+  accepted w l m en ec es eb =
+      rw (w, l, m) (λ i. record { number = 0; count = en i; state = record { held = es i; count = ec i }; buffer = eb i })
 
-  pub clean-mode : (end : ℕ) → end ≡ L → outcomeTo end h L buffer ≡ cleanOutcome h L buffer
-  clean-mode end e = ap (λ (x : ℕ). outcomeTo x h L buffer) e
+module _ (g : Counted Held) (L : ℕ) (buffer : List ℕ) where
+  pub clean-mode : (end : ℕ) → end ≡ L → outcomeTo end g L buffer ≡ cleanOutcome g L buffer
+  clean-mode end e = ap (λ (x : ℕ). outcomeTo x g L buffer) e
 
-  pub crate-mode : (end : ℕ) → end ≡ crateEnd L → outcomeTo end h L buffer ≡ crateOutcome h L buffer
+  pub crate-mode : (end : ℕ) → end ≡ crateEnd L → outcomeTo end g L buffer ≡ crateOutcome g L buffer
   crate-mode end e =
-      ap (λ (b : List ℕ). maskTested h L buffer (drawn (wordsToMask (length buffer)) h b))
-      (ap (λ (x : ℕ). maskClean (wordAt (h .meaning)) x buffer) e ∙ sym (crate-clean (wordAt (h .meaning)) L buffer))
+      ap (maskTested g (wordsToMask (length buffer)) L buffer)
+      (ap (λ (x : ℕ). maskClean (wordAt (g .held .meaning)) x buffer) e ∙ sym (crate-clean (wordAt (g .held .meaning)) L buffer))

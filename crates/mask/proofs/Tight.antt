@@ -7,24 +7,25 @@ use Prim.Native.Nat.{ℕ}
 use lib.Dec.{eqb}
 use Rattle.standard.proofs.Promise.{AsksNothing, Tight}
 use Rattle.standard.specs.Notation.{if_then_else_}
-use Rattle.standard.specs.Refusals.{accepted, badState}
+use Rattle.standard.specs.Refusals.{accepted, badBits, badState}
 use Rattle.mask.specs.declared.MaskAnswer.{MaskAnswer}
-use Rattle.mask.specs.declared.MaskAnswer.the-variants.{Done, BadState, BadBits}
+use Rattle.mask.specs.declared.MaskAnswer.the-variants.{Done, BadState, BadBits, Spent}
 use Rattle.mask.specs.declared.Masked.{Masked}
-use Rattle.zuc.proofs.Turning.{read-once}
+use Rattle.zuc.proofs.Turning.{counted-once}
 use Rattle.mask.specs.Outcome.{Outcome, told, numberOf, countOf}
 use Rattle.mask.proofs.mask_crate.Reads as mask-crate
 use Rattle.mask.proofs.mask_clean.Reads as mask-clean
 
 -- the answer that a number and a count stand for
 answerOf : ℕ → ℕ → MaskAnswer
-answerOf n count = if eqb n accepted then Done count else if eqb n badState then BadState else BadBits
+answerOf n count = if eqb n accepted then Done count else if eqb n badState then BadState else if eqb n badBits then BadBits else Spent
 
 answer-back : (a : MaskAnswer) → answerOf (numberOf a) (countOf a) ≡ a
 unfolding answerOf
 answer-back (Done n) = refl
 answer-back BadState = refl
 answer-back BadBits = refl
+answer-back Spent = refl
 
 -- what is told tells what is returned
 told-all : (r r′ : Masked) (b b′ : List ℕ) → told r b ≡ told r′ b′ → _≡_ {A = Masked × List ℕ} (r, b) (r′, b′)
@@ -32,7 +33,7 @@ told-all r r′ b b′ e =
     λ i. (
       record {
         answer = (sym (answer-back (r .answer)) ∙ ap (λ o. answerOf (o .number) (o .count)) e ∙ answer-back (r′ .answer)) i;
-        state = read-once (r .state) (r′ .state) (ap (λ (o : Outcome). o .state) e) i;
+        state = counted-once (r .state) (r′ .state) (ap (λ (o : Outcome). o .state) e) i;
       },
       e i .buffer,
     )

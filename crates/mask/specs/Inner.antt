@@ -5,9 +5,9 @@ use lib.Dec.{ltb}
 use lib.ListN.{length}
 use Rattle.standard.specs.Confidentiality.{keepHigh, keptByClean, maskClean, wordsToMask}
 use Rattle.standard.specs.Generator.{wordAt}
-use Rattle.standard.specs.States.{Held}
+use Rattle.standard.specs.States.{Counted, Held}
 use Rattle.standard.specs.Notation.{if_then_else_}
-use Rattle.mask.specs.Outcome.{Outcome, drawn, maskTested}
+use Rattle.mask.specs.Outcome.{Outcome, maskTested}
 
 -- a byte at a place, zeroed at and past another
 abbrev pub zeroed : ℕ → ℕ → ℕ → ℕ
@@ -18,5 +18,5 @@ abbrev pub cleared : ℕ → ℕ → ℕ → ℕ
 cleared L j byte = keepHigh (keptByClean L j) byte
 
 -- kept are the bits before `end`
-abbrev pub outcomeTo : ℕ → Held → ℕ → List ℕ → Outcome
-outcomeTo end h L buffer = maskTested h L buffer (drawn (wordsToMask (length buffer)) h (maskClean (wordAt (h .meaning)) end buffer))
+abbrev pub outcomeTo : ℕ → Counted Held → ℕ → List ℕ → Outcome
+outcomeTo end g L buffer = maskTested g (wordsToMask (length buffer)) L buffer (maskClean (wordAt (g .held .meaning)) end buffer)

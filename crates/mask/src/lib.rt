@@ -6,9 +6,9 @@ ghost use Rattle.mask.specs.Inner.{zeroed, cleared, outcomeTo};
 ghost use Rattle.mask.specs.Outcome.{told, crateOutcome, cleanOutcome};
 ghost use Rattle.standard.specs.Confidentiality.{keepHigh};
 ghost use Rattle.standard.specs.Notation.{eachFrom};
-ghost use Rattle.zuc.specs.Reading.{heldOf};
+ghost use Rattle.zuc.specs.Reading.{countedOf};
 use mask_bulk::mask_all;
-use zuc::Zuc;
+use zuc::Generator;
 use zuc::boxes::s0;
 use zuc::boxes::s1;
 
@@ -17,12 +17,13 @@ pub enum MaskAnswer {
     Done(usize),
     BadState,
     BadBits,
+    Spent,
 }
 
 // The answer, and the state handed back.
 pub struct Masked {
     pub answer: MaskAnswer,
-    pub state: Zuc,
+    pub state: Generator,
 }
 
 // Zeroes from a place on.
@@ -59,11 +60,11 @@ fn keep_bits(buf: &mut [u8], q: usize, k: usize)
 }
 
 // Both modes: they differ in how many high bits of byte floor(bits/8) are kept.
-fn mask(start: Zuc, buf: &mut [u8], bits: usize, kept: usize) -> Masked
+fn mask(start: Generator, buf: &mut [u8], bits: usize, kept: usize) -> Masked
     requires { ⌜ kept ≤ 8 ⌝ }
-    ensures { λ r. ⌜ told r (now (buf .exit)) ≡ outcomeTo (bits / 8 * 8 + kept) (heldOf start) bits (now (buf .entry)) ⌝ }
+    ensures { λ r. ⌜ told r (now (buf .exit)) ≡ outcomeTo (bits / 8 * 8 + kept) (countedOf start) bits (now (buf .entry)) ⌝ }
 {
-    if !zuc::is_well_formed(start) {
+    if !zuc::is_formed(start) {
         return Masked {
             answer: MaskAnswer::BadState,
             state: start,
@@ -76,19 +77,30 @@ fn mask(start: Zuc, buf: &mut [u8], bits: usize, kept: usize) -> Masked
             state: start,
         };
     }
+    let count = start.count;
+    let drawn = n / 4 + 1;
+    if !words::has_left(count, drawn) {
+        return Masked {
+            answer: MaskAnswer::Spent,
+            state: start,
+        };
+    }
     let t0 = s0();
     let t1 = s1();
-    let state = mask_all(&t0, &t1, start, buf);
+    let z = mask_all(&t0, &t1, start.z, buf);
     keep_bits(buf, bits / 8, kept);
     Masked {
-        answer: MaskAnswer::Done(n / 4 + 1),
-        state,
+        answer: MaskAnswer::Done(drawn),
+        state: Generator {
+            z,
+            count: count + drawn,
+        },
     }
 }
 
 // As the crate does: a byte whose first bit is the first past the length stays masked.
-pub fn mask_crate(state: Zuc, buf: &mut [u8], bits: usize) -> Masked
-    ensures { λ r. ⌜ told r (now (buf .exit)) ≡ crateOutcome (heldOf state) bits (now (buf .entry)) ⌝ }
+pub fn mask_crate(state: Generator, buf: &mut [u8], bits: usize) -> Masked
+    ensures { λ r. ⌜ told r (now (buf .exit)) ≡ crateOutcome (countedOf state) bits (now (buf .entry)) ⌝ }
 {
     let part = bits % 8;
     if part == 0 {
@@ -98,8 +110,8 @@ pub fn mask_crate(state: Zuc, buf: &mut [u8], bits: usize) -> Masked
 }
 
 // Every bit at or past the length is zeroed.
-pub fn mask_clean(state: Zuc, buf: &mut [u8], bits: usize) -> Masked
-    ensures { λ r. ⌜ told r (now (buf .exit)) ≡ cleanOutcome (heldOf state) bits (now (buf .entry)) ⌝ }
+pub fn mask_clean(state: Generator, buf: &mut [u8], bits: usize) -> Masked
+    ensures { λ r. ⌜ told r (now (buf .exit)) ≡ cleanOutcome (countedOf state) bits (now (buf .entry)) ⌝ }
 {
     mask(state, buf, bits, bits % 8)
 }

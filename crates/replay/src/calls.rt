@@ -22,14 +22,14 @@ use vectors_parts::front;
 use vectors_parts::least;
 use vectors_parts::part;
 use vectors_parts::put;
-use zuc::Zuc;
+use zuc::Generator;
 
 fn bytes_at(r: &[u8], f: Field) -> &[u8] {
     part(r, f.at, f.len)
 }
 
 // The generator of the call: ZUC-128, ZUC-256 or EEA3 by the low digit of its kind.
-fn started(r: &[u8], c: Call) -> Zuc {
+fn started(r: &[u8], c: Call) -> Generator {
     let digit = c.kind % 16;
     match digit {
         1 => {
@@ -48,14 +48,14 @@ fn started(r: &[u8], c: Call) -> Zuc {
 }
 
 // The next word, or 0 of a refusal.
-fn next_word(state: Zuc) -> u32 {
+fn next_word(state: Generator) -> u32 {
     let drew = keystream::generate(state);
     let answer = drew.answer;
     draw_word(answer)
 }
 
 // The first n words of a buffer filled, and the state after them.
-fn fill_front(state: Zuc, words: &mut [u32], n: usize) -> Zuc {
+fn fill_front(state: Generator, words: &mut [u32], n: usize) -> Generator {
     let m = least(n, words.len());
     let filled = keystream::fill(state, &mut words[0..m]);
     filled.state
@@ -76,7 +76,7 @@ fn words_agree(r: &[u8], c: Call, a: Answer) -> bool {
     check::same(front(&bytes, n * 4), bytes_at(r, a.bytes))
 }
 
-fn mask_front(state: Zuc, buffer: &mut [u8], n: usize, bits: usize) -> Masked {
+fn mask_front(state: Generator, buffer: &mut [u8], n: usize, bits: usize) -> Masked {
     let m = least(n, buffer.len());
     mask::mask_crate(state, &mut buffer[0..m], bits)
 }

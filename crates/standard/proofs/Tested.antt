@@ -2,7 +2,7 @@
 use mathlib.Core.Bool.{Bool, true, false}
 use mathlib.Core.List.{List, [], _∷_}
 use mathlib.Core.Logic.{_⊎_, inl, inr, ⊎-elim}
-use mathlib.Core.Path.{_≡_, refl, sym, ap, _∙_}
+use mathlib.Core.Path.{_≡_, refl, sym, ap, _∙_, subst}
 use Prim.Native.Nat.{ℕ, _<_}
 use native.Mathlib.Omega.{arith}
 use Rattle.standard.specs.Notation.{if_then_else_}
@@ -47,6 +47,12 @@ unfolding tested
 decided [] refused answer low = inl tt
 decided (test ∷ rest) refused answer low =
     if-decided (test .passes) (tested rest refused answer) (refused (test .number)) refused (test .number) (low .0) refl (decided rest refused answer (low .1))
+
+-- what holds of every refusal, and of the answer where every test passes
+pub either : {A : Type 0} (P : A → Type 0) (tests : List Test) → Numbered tests → (refused : ℕ → A) (answer : A) → ((n : ℕ) → P (refused n))
+    → (AllPass tests → P answer) → P (tested tests refused answer)
+either P tests low refused answer of-refusals of-answer =
+    ⊎-elim (λ all. subst P (sym (passed tests refused answer all)) (of-answer all)) (λ r. subst P (sym (r .2)) (of-refusals (r .0))) (decided tests refused answer low)
 
 -- what is done with an outcome is done with its refusals and with its answer
 pub tested-map : {A B : Type 0} (f : A → B) (tests : List Test) (refused : ℕ → A) (answer : A)

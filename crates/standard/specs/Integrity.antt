@@ -57,3 +57,14 @@ drawnAfter-ZUC256 t N = t / 32 * (3 + 8 * N / t)
 
 abbrev pub drawnByTag-ZUC256 : ℕ → ℕ → ℕ
 drawnByTag-ZUC256 t l = t / 32 * (3 + l / t)
+
+-- Request 2026-09: the words that a call draws of a tag state where some bytes wait, so that the count comes to those numbers: an update
+-- of N bytes, and a closing by l bits. (A start draws drawnAfter of 0 bytes, a one-shot drawnByTag)
+abbrev pub wordsToUpdate : (t waiting N : ℕ) → ℕ
+wordsToUpdate t waiting N = t / 32 * (8 * (waiting + N) / t)
+
+abbrev pub wordsToClose-EIA3 : (waiting l : ℕ) → ℕ
+wordsToClose-EIA3 waiting l = ceil (8 * waiting + l) 32
+
+abbrev pub wordsToClose-ZUC256 : (t waiting l : ℕ) → ℕ
+wordsToClose-ZUC256 t waiting l = t / 32 * ((8 * waiting + l) / t)

@@ -8,6 +8,7 @@ use lib.Dec.{eqb, leb, ltb}
 use lib.ListN.{length}
 use Rattle.standard.specs.Notation.{if_then_else_}
 use Rattle.standard.specs.Integrity.{isWidth}
+use Rattle.standard.specs.States.{limit}
 
 -- no refusal
 abbrev pub accepted : ℕ
@@ -32,6 +33,11 @@ badState = 4
 -- the bit length is more than 8 times the bytes lent
 abbrev pub badBits : ℕ
 badBits = 5
+
+-- Request 2026-09: the words that the call would draw are more than what is left of its start; checked after 5, or after 4 where 5 does
+-- not apply
+abbrev pub spent : ℕ
+spent = 16
 
 -- Request 2026-03 (a guard over a table of links), checked in this order: 13, 12, 11.
 -- no such link
@@ -65,6 +71,10 @@ stateTest formed = record { passes = formed; number = badState }
 
 abbrev pub bitsTest : ℕ → List ℕ → Test
 bitsTest bits lent = record { passes = leb bits (length lent * 8); number = badBits }
+
+-- of a state's count and the words that a call would draw
+abbrev pub limitTest : ℕ → ℕ → Test
+limitTest count words = record { passes = leb (count + words) limit; number = spent }
 
 -- of a place in a table; of a COUNT and a link's highest one; of whether a COUNT is known as accepted
 abbrev pub linkTest : {A : Type 0} → ℕ → List A → Test

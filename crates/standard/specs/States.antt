@@ -3,7 +3,7 @@ use mathlib.Core.Bool.{Bool, true, _&&_}
 use mathlib.Core.List.{List, [], _∷_}
 use Prim.Native.Nat.{ℕ, zero, suc, _+_, _-_, _/_, _%_, _^_}
 use lib.Dec.{eqb, leb, ltb}
-use lib.ListN.{drop, replicate}
+use lib.ListN.{drop, length, replicate}
 use Rattle.standard.specs.Notation.{_⟨_⟩, if_then_else_}
 use Rattle.standard.specs.Generator.{State, next}
 use Rattle.standard.specs.Integrity.{isWidth}
@@ -35,6 +35,32 @@ moved (suc n) h = record { meaning = next (moved n h .meaning); start = (moved n
 -- what a refused start hands back
 unfoldable pub zeros : Held
 zeros = fromZero (record { cells = replicate 16 0; R₁ = 0; R₂ = 0 })
+
+-- Request 2026-09: a start is spent after so many words, those of an EIA3 tag of 2^32 bits
+abbrev pub limit : ℕ
+limit = 134217730
+
+-- a state carries how many words its start has drawn: 0 after a start, and each draw raises it
+pub record Counted (A : Type 0) : Type 0 where
+  pub held : A
+  pub count : ℕ
+
+abbrev pub fromStart : {A : Type 0} → A → Counted A
+fromStart x = record { held = x; count = 0 }
+
+abbrev pub drawnOn : ℕ → Counted Held → Counted Held
+drawnOn n g = record { held = moved n (g .held); count = g .count + n }
+
+-- it is malformed when what it holds is, or the count is above the limit
+unfoldable pub generatorFormed : Counted Held → Bool
+generatorFormed g = heldFormed (g .held) && leb (g .count) limit
+
+-- the words that a draw draws, and a fill
+abbrev pub wordsToDraw : ℕ
+wordsToDraw = 1
+
+abbrev pub wordsToFill : List ℕ → ℕ
+wordsToFill buffer = length buffer
 
 -- A tag's state: the generator, the key pair in four words of 64 bits, the tag in two, sixteen waiting bytes, their count, the width
 -- in bytes. Document 01, "What must change shape": key pairs and tags as two or four 64-bit words
@@ -68,6 +94,10 @@ formed s =
 -- for ZUC-128 and EIA3 also when the width is not 4
 unfoldable pub formed-128 : Stored → Bool
 formed-128 s = formed s && eqb (s .width) 4
+
+-- and, by request 2026-09, when the count is above the limit
+unfoldable pub tagFormed : (Stored → Bool) → Counted Stored → Bool
+tagFormed test s = test (s .held) && leb (s .count) limit
 
 -- what a refused tag start and an accepted finish hand back
 unfoldable pub zeroStored : Stored

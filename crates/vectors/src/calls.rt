@@ -36,9 +36,9 @@ use vectors_parts::told;
 use vectors_parts::turned;
 
 // The arrays that the lines work on.
-pub type Generator = [u32; 19];
+pub type Generator = [u32; 20];
 
-pub type TagArray = [u64; 20];
+pub type TagArray = [u64; 21];
 
 // Kinds 0 to 5, starts of both arrays: the number.
 fn started(
@@ -92,14 +92,16 @@ fn drew(kind: usize, n: [u64; 4], g: &mut Generator, words: &mut [u32], out: &mu
     told::drawn(number, &words[from..many], out)
 }
 
-// Kind 8, a draw of the generator as a struct that is lent: the number, and the word. An index too great for its word would leave the
-// array as it was, and a row would show it.
+// Kind 8, a draw of the generator as a struct that is lent: the number, and the word. An index or a count too great for its word would
+// leave the array as it was, and a row would show it.
 fn draw_in_place(g: &mut Generator, out: &mut [u8]) -> usize {
     let drew = drawn(state_in(*g));
     let next = drew.state;
     let answer = drew.answer;
-    if next.start < 0x1_0000_0000 {
-        *g = array_of(next);
+    if next.z.start < 0x1_0000_0000 {
+        if next.count < 0x1_0000_0000 {
+            *g = array_of(next);
+        }
     }
     let word = [draw_word(answer)];
     told::drawn(draw_number(answer), &word, out)
@@ -201,13 +203,13 @@ fn once(kind: usize, n: [u64; 4], a: &[u8], b: &[u8], c: &[u8], out: &mut [u8]) 
 // Kinds 22 and 23, a word of an array set.
 fn set(kind: usize, at: usize, word: u64, g: &mut Generator, t: &mut TagArray) -> bool {
     if kind == 22 {
-        if at < 19 {
+        if at < 20 {
             g[at] = (word % 0x1_0000_0000) as u32;
             return true;
         }
     }
     if kind == 23 {
-        if at < 20 {
+        if at < 21 {
             t[at] = word;
             return true;
         }

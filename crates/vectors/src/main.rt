@@ -172,8 +172,8 @@ fn read(script: &[u8], at: usize, p: Progress, g: &mut Generator, t: &mut TagArr
 }
 
 fn run(script: &[u8]) -> Tally {
-    let mut g = [0u32; 19];
-    let mut t = [0u64; 20];
+    let mut g = [0u32; 20];
+    let mut t = [0u64; 21];
     let nothing = Outcome {
         text: [0u8; 4096],
         len: 0,
@@ -198,7 +198,7 @@ fn run(script: &[u8]) -> Tally {
 }
 
 fn main() {
-    let mut script = [0u8; 131072];
+    let mut script = [0u8; 262144];
     let n = io::read_full(STDIN_FILENO, &mut script);
     vectors_parts::table::foot(run(front(&script, n)));
 }

@@ -1,9 +1,10 @@
-// Helpers on words that the language lacks: rotation, bytes of a word, and a bit length held against a byte count.
+// Helpers on words that the language lacks: rotation, bytes of a word, a bit length held against a byte count, words against what is left.
 ghost use lib.Dec.{leb};
 ghost use mathlib.Core.Path.{_≡_};
-ghost use Prim.Native.Nat.{_*_, _<_};
+ghost use Prim.Native.Nat.{_+_, _*_, _<_, _≤_};
 ghost use Rattle.standard.specs.Bits.{byteOf};
 ghost use Rattle.standard.specs.Notation.{_‖₈_, _⋘_};
+ghost use Rattle.standard.specs.States.{limit};
 
 // x rotated left by n, which is 1 to 31.
 pub fn rol(x: u32, n: u32) -> u32
@@ -35,6 +36,20 @@ pub fn bits_fit(bits: usize, bytes: usize) -> bool
     // The bytes that the bits reach into.
     let reached = bits / 8 + (bits % 8 + 7) / 8;
     if reached <= bytes {
+        return true;
+    }
+    false
+}
+
+// The words of a start (request 2026-09).
+pub const LIMIT: usize = 134217730;
+
+// Whether so many words more are left of a start that has drawn a count of them. Nothing is added, so nothing overflows.
+pub fn has_left(count: usize, words: usize) -> bool
+    requires { ⌜ count ≤ limit ⌝ }
+    ensures { λ r. ⌜ r ≡ leb (count + words) limit ⌝ }
+{
+    if words <= LIMIT - count {
         return true;
     }
     false

@@ -11,4 +11,4 @@ returns c = sym (ap tagList (c .before .answer .given .1))
 pub tag-words-spec : {M : Type 1} → statement M
 tag-words-spec =
     tie.close
-    (tie.spec (λ c. search needs) (λ c. search needs) (λ c. search needs) returns (λ c. search needs) (λ c. search needs))
+    (tie.spec (λ c. search needs) (λ c. search needs) (λ c. search needs) (λ c. search needs) returns (λ c. search needs) (λ c. search needs) (λ c. search needs))

@@ -12,20 +12,20 @@ use Rattle.capi_arrays.proofs.bytes_in.Statement.{statement}
 use Rattle.capi_arrays.proofs.bytes_in.Tie as tie
 
 abbrev Inv-loop : tie.InvT-loop
-Inv-loop a bytes₀ i₀ bytes i = Filled (cuts 8 8 (take 2 (drop 16 a))) 16 i bytes
+Inv-loop a bytes₀ i₀ bytes i = Filled (cuts 8 8 (take 2 (drop 17 a))) 16 i bytes
 
 abbrev μ-loop : tie.MeasureT-loop
 μ-loop a bytes₀ i₀ bytes i = 16 - i
 
 loop-holds : tie.Need-loop-holds Inv-loop μ-loop
-loop-holds c = none-filled (cuts 8 8 (take 2 (drop 16 (c .args .t1)))) 16 (replicate 16 0) refl
+loop-holds c = none-filled (cuts 8 8 (take 2 (drop 17 (c .args .t1)))) 16 (replicate 16 0) refl
 
 loop-again : tie.Need-loop-again Inv-loop μ-loop
 loop-again c =
     let l = c .before .before .loop in
     let a = c .before .before .before .args .t1 in
-    cut-filled 8 8 16 (l .i) (c .byte-of .result) (take 2 (drop 16 a)) (l .bytes) (omega arith) (search needs)
-    (c .byte-of .ensures ∙ ap (λ (x : ℕ). window (bitOf 64 x) (l .i % 8 * 8) 8) (sym (getD-take 2 (drop 16 a) (l .i / 8) 0 (omega arith) ∙ getD-drop 16 a (l .i / 8) 0)))
+    cut-filled 8 8 16 (l .i) (c .byte-of .result) (take 2 (drop 17 a)) (l .bytes) (omega arith) (search needs)
+    (c .byte-of .ensures ∙ ap (λ (x : ℕ). window (bitOf 64 x) (l .i % 8 * 8) 8) (sym (getD-take 2 (drop 17 a) (l .i / 8) 0 (omega arith) ∙ getD-drop 17 a (l .i / 8) 0)))
     (l .inv)
 
 returns : tie.Need-returns Inv-loop μ-loop

@@ -57,13 +57,14 @@ returns c =
     let words = first .before .before in
     let start = words .before .before .before .before .before in
     let s = start .args .s in
-    let is : _ ≡ tagArrayOf (storedOf s) =
+    let is : _ ≡ tagArrayOf (record { held = storedOf s; count = start .args .count }) =
     λ i.
     (all-listed (words .words-of .result) 9 (words-full words) ∙ words .words-of .ensures) i
     ++ (s .g .start
+    ∷ start .args .count
     ∷ all-listed (s .key) 4 (fit start .key-full) i
     ++ (all-listed (s .tag) 2 (fit start .tag-full) i ++ (first .wide-at .ensures i ∷ c .wide-at2 .ensures i ∷ s .cnt ∷ s .width ∷ []))) in
-    (is, ap storedIn is ∙ array-stored (storedOf s) (fit start))
+    (is, ap storedIn is ∙ array-stored (record { held = storedOf s; count = start .args .count }) (fit start))
 
 pub tag-array-of-spec : {M : Type 1} → statement M
 tag-array-of-spec =

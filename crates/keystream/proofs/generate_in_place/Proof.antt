@@ -38,10 +38,10 @@ use denote.Triple.Walked.{says, Stays, stay-ref, walkOf, AllGo, goes-ref, Walks,
 use Rattle.keystream.specs.declared.DrawAnswer.{DrawAnswer}
 use Rattle.keystream.specs.declared.Drew.{Drew}
 use Rattle.keystream.specs.Draws.{drawOutcome, drawTold}
-use Rattle.zuc.specs.declared.Zuc.{Zuc}
-use Rattle.zuc.specs.Reading.{heldOf}
-use Rattle.zuc.proofs.Zuc as T
-use Rattle.zuc.proofs.Zuc.Laws as T′
+use Rattle.zuc.specs.declared.Generator.{Generator}
+use Rattle.zuc.specs.Reading.{countedOf}
+use Rattle.zuc.proofs.Generator as T
+use Rattle.zuc.proofs.Generator.Laws as T′
 use Rattle.keystream.proofs.Drew as D
 use Rattle.keystream.proofs.Drew.Laws as D′
 use Rattle.keystream.proofs.DrawAnswer as E
@@ -56,7 +56,7 @@ use Rattle.keystream.proofs.generate_in_place.Statement as stated
 use Rattle.keystream.proofs.generate_in_place.Code as code
 
 -- the machine value of a generator, and of an answer
-abbrev mach : Zuc → Val
+abbrev mach : Generator → Val
 mach = LL.val T.the-type T′.the-laws
 
 abbrev answered : DrawAnswer → Val
@@ -65,8 +65,8 @@ answered = EL.val E.the-type E′.the-laws
 abbrev stayed : Stays (in-place.ended .signature .params) (in-place.ended .kept)
 stayed = (stay-ref (0 ∷ []) tt (plain (λ _. T.the-row)), tt)
 
-abbrev Right : Zuc → Drew → Type 0
-Right h r = drawTold r ≡ drawOutcome (heldOf h)
+abbrev Right : Generator → Drew → Type 0
+Right h r = drawTold r ≡ drawOutcome (countedOf h)
 
 -- what is known of the fields of what `generate` returned
 answer-is : (r : Drew) (w : Val) → Is D.the-row r (w ∷ []) → Is E.the-row (r .answer) (answered (r .answer) ∷ [])
@@ -80,11 +80,11 @@ module _ {M : Type 1} (𝓤 : URA M) (H : Heap 𝓤) (A : Atoms 𝓤) (at-mem : 
   abbrev Generate : Contract 𝓤
   Generate = tripleOf 𝓤 H A generate.signature (generate.spec 𝓤 H A at-mem run)
 
-  right : (h : Zuc) (r : Drew) → ent 𝓤 (ensured 𝓤 H A generate.ended (generate.clauses 𝓤 H A at-mem run) tt (h, tt) tt r) (fact 𝓤 (Right h r))
+  right : (h : Generator) (r : Drew) → ent 𝓤 (ensured 𝓤 H A generate.ended (generate.clauses 𝓤 H A at-mem run) tt (h, tt) tt r) (fact 𝓤 (Right h r))
   right h r = exE 𝓤 _ (λ ws. snd∗ 𝓤 (sem 𝓤 H A (lasts generate.ended tt (h, tt) ws)) (fact 𝓤 (Right h r)))
 
-module _ {M : Type 1} (𝓤 : URA M) (H : Heap 𝓤) (A : Atoms 𝓤) (W : Given 𝓤 H A) (at-mem : Memory → SProp 𝓤) (run : Routine → Fun 𝓤) (κ : Lft) (q : Share) (b o : ℕ) (γ : GName) (h : Zuc) where
-  abbrev x : RefT Zuc × Unit {0}
+module _ {M : Type 1} (𝓤 : URA M) (H : Heap 𝓤) (A : Atoms 𝓤) (W : Given 𝓤 H A) (at-mem : Memory → SProp 𝓤) (run : Routine → Fun 𝓤) (κ : Lft) (q : Share) (b o : ℕ) (γ : GName) (h : Generator) where
+  abbrev x : RefT Generator × Unit {0}
   x = (record { ptr = (b, o); name = γ; now = h }, tt)
 
   abbrev at : List Val × Unit {0}
@@ -120,7 +120,7 @@ module _ {M : Type 1} (𝓤 : URA M) (H : Heap 𝓤) (A : Atoms 𝓤) (W : Given
       move ! (9 ∷ []) $ fsplit ! $ fsplit3 ! $ drop ! $ move ! (11 ∷ []) $ split ! $ move ! (2 ∷ 3 ∷ 0 ∷ []) $
       opens ! tt T.the-row {h = h} b o (λ vs. spelt ! T.the-row (Is T.the-row) (shows 𝓤 H A T.the-row) (LL.vals T.the-type T′.the-laws) (LL.tells T.the-type T′.the-laws) fullShare h vs b o $
       move ! (1 ∷ []) $ peeks ! T.the-row (Is T.the-row) (shows 𝓤 H A T.the-row) h (mach h ∷ []) (λ was. move ! (1 ∷ 0 ∷ []) $
-      -- [the struct's cell; what a Zuc owns; the open borrow; obs; auth; true; true; _3; …; _2; …; _1; …; room for _0; …]
+      -- [the struct's cell; what a generator owns; the open borrow; obs; auth; true; true; _3; …; _2; …; _1; …; room for _0; …]
       assigns ! (of-opd ! (load ! (from ! (hop ! (look ! 11 refl) (stop !))) (look-raw ! 0 refl))) (from ! (stop !)) (init ! 7 refl (LL.lawful T.the-type T′.the-laws 𝓤 H A W .typed h _ was .0)) $
       -- the call
       owned ! T.the-row (Is T.the-row) (LL.makes T.the-type T′.the-plain 𝓤 H A) h (mach h ∷ []) was $ use1 W (raw (Generate 𝓤 H A at-mem run .pre to-generate)) goes-generate $
@@ -130,7 +130,7 @@ module _ {M : Type 1} (𝓤 : URA M) (H : Heap 𝓤) (A : Atoms 𝓤) (W : Given
       peeks ! D.the-row (Is D.the-row) (shows 𝓤 H A D.the-row) r (w ∷ []) (λ is.
       land ! (from ! (stop !)) (init ! 10 refl (LL.lawful D.the-type D′.the-laws 𝓤 H A W .typed r _ is .0)) $
       rewrite ! 10 (λ (v : Val). ‵ (fat fullShare D′.mir l₂ 0 v)) (ap only (LL.tells D.the-type D′.the-laws r (w ∷ []) is)) refl $
-      -- [what the Drew owns; the struct's cell; what a Zuc owns; the open borrow; obs; auth; true; true; _3; …; _2; …; _1; …; room for _0; …]
+      -- [what the Drew owns; the struct's cell; what a generator owns; the open borrow; obs; auth; true; true; _3; …; _2; …; _1; …; room for _0; …]
       assigns ! (of-opd ! (load ! (from ! (fld ! refl (stop !))) (look-in ! 10 (sub ! 1 refl (whole !))))) (from ! (hop ! (look ! 12 refl) (stop !))) (store-raw ! 1 refl (LL.lawful T.the-type T′.the-laws 𝓤 H A W .typed (r .state) _ (state-is r w is) .0)) $
       assigns ! (of-opd ! (load ! (from ! (fld ! refl (stop !))) (look-in ! 10 (sub ! 0 refl (whole !))))) (from ! (stop !)) (init ! 14 refl (EL.lawful E.the-type E′.the-laws 𝓤 H A W tt .typed (r .answer) _ (answer-is r w is) .0)) $
       -- the borrow is closed at the next generator

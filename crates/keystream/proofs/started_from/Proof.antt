@@ -7,7 +7,7 @@ init-requires : tie.Need-init-requires
 init-requires c κs = (c .before .before .before .s0 .ensures, (c .before .before .s1 .ensures, c .before .before .before .before .pre))
 
 returns : tie.Need-returns
-returns c = λ i. record { number = 0; state = c .init .ensures i }
+returns c = λ i. record { number = 0; state = record { held = c .init .ensures i; count = 0 } }
 
 pub started-from-spec : {M : Type 1} → statement M
 started-from-spec =

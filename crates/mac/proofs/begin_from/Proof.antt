@@ -3,8 +3,9 @@ use mathlib.Core.Path.{refl, ap, _∙_}
 use borrow.Author.Needs.{needs}
 use Rattle.keystream.specs.declared.StartAnswer.{StartAnswer}
 use Rattle.keystream.specs.Starts.{startNumber, startTold}
-use Rattle.mac_registers.specs.Stored.{storedOf}
+use Rattle.standard.specs.States.{Stored}
 use Rattle.mac.specs.Inner.{begun-128}
+use Rattle.mac.specs.Reading.{taggedOf, taggedOf-128}
 use Rattle.mac.proofs.Outcomes.{refused-as, started-as}
 use Rattle.mac.proofs.begin_from.Statement.{statement}
 use Rattle.mac.proofs.begin_from.Tie as tie
@@ -20,7 +21,8 @@ unfolding begun-128
 returns c =
     let m = c .before .before .before .before .before in
     let s = m .before .before .before in
-    started-as (startTold (s .args .start)) (storedOf (c .begin-128 .result)) _ (ap startNumber (m .enum-told .given .1)) (c .begin-128 .ensures)
+    started-as (startTold (s .args .start)) (taggedOf (c .begin-128 .result) 2) _ (ap startNumber (m .enum-told .given .1))
+    (ap (λ (x : Stored). record { held = x; count = 2 }) (c .begin-128 .ensures))
 
 returns-2 : tie.Need-returns-2
 unfolding begun-128
@@ -28,8 +30,8 @@ returns-2 c =
     let m = c .before in
     let s = m .before .before in
     let r = c .refused-128 in
-    ap (λ (a : StartAnswer). record { number = startNumber a; state = storedOf (r .result .mac .state) }) (r .ensures .0)
-    ∙ refused-as (startTold (s .args .start)) (storedOf (r .result .mac .state)) _ (s .args .start .answer) (m .match .keys2) refl (r .ensures .1)
+    ap (λ (a : StartAnswer). record { number = startNumber a; state = taggedOf-128 (r .result .mac) }) (r .ensures .0)
+    ∙ refused-as (startTold (s .args .start)) (taggedOf-128 (r .result .mac)) _ (s .args .start .answer) (m .match .keys2) refl (r .ensures .1)
 
 pub begin-from-spec : {M : Type 1} → statement M
 begin-from-spec =

@@ -5,7 +5,7 @@ use native.Mathlib.Omega.{arith}
 use denote.Ref.{now}
 use borrow.Author.Needs.{needs}
 use Rattle.standard.proofs.Kept.{edge-end, inner-end}
-use Rattle.zuc.specs.Reading.{heldOf}
+use Rattle.zuc.specs.Reading.{countedOf}
 use Rattle.mask.proofs.Outcomes.{crate-mode}
 use Rattle.mask.proofs.mask_crate.Statement.{statement}
 use Rattle.mask.proofs.mask_crate.Tie as tie
@@ -15,14 +15,14 @@ returns c =
     let t = c .before .before .before .before in
     let a = t .before .before .args in
     c .before .before .mask .ensures
-    ∙ crate-mode (heldOf (a .state)) (a .bits) (now (a .buf)) (a .bits / 8 * 8 + 8) (omega (arith, edge-end (a .bits) (t .if1 .taken)))
+    ∙ crate-mode (countedOf (a .state)) (a .bits) (now (a .buf)) (a .bits / 8 * 8 + 8) (omega (arith, edge-end (a .bits) (t .if1 .taken)))
 
 returns-2 : tie.Need-returns-2
 returns-2 c =
     let t = c .before .before .before .before in
     let a = t .before .before .args in
     c .before .before .mask2 .ensures
-    ∙ crate-mode (heldOf (a .state)) (a .bits) (now (a .buf)) (a .bits / 8 * 8 + a .bits % 8) (omega (arith, inner-end (a .bits) (t .if1 .left)))
+    ∙ crate-mode (countedOf (a .state)) (a .bits) (now (a .buf)) (a .bits / 8 * 8 + a .bits % 8) (omega (arith, inner-end (a .bits) (t .if1 .left)))
 
 pub mask-crate-spec : {M : Type 1} → statement M
 mask-crate-spec =

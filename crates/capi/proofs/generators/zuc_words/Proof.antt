@@ -4,7 +4,7 @@ use mathlib.Core.Path.{_∙_, ap}
 use Rattle.capi.proofs.Indices.{fill-fits}
 use Rattle.capi.specs.Generators.{wordsArray}
 use Rattle.keystream.specs.Draws.{fillOutcome}
-use Rattle.standard.specs.States.{Held}
+use Rattle.standard.specs.States.{Counted, Held}
 use borrow.Author.Needs.{needs}
 use Rattle.capi.proofs.generators.zuc_words.Statement.{statement}
 use Rattle.capi.proofs.generators.zuc_words.Tie as tie
@@ -20,7 +20,7 @@ returns c =
     let filled = put .before .before .before .before in
     let start = filled .before .before .before .before .before in
     (λ i. record { number = c .fill-number .ensures i; array = put .array-of .ensures .0 i; buffer = filled .fill .last .1 .0 })
-    ∙ ap wordsArray (filled .fill .ensures ∙ ap (λ (h : Held). fillOutcome h (now (start .args .out))) (filled .before .before .state-in .ensures .0))
+    ∙ ap wordsArray (filled .fill .ensures ∙ ap (λ (h : Counted Held). fillOutcome h (now (start .args .out))) (filled .before .before .state-in .ensures .0))
 
 pub zuc-words-spec : {M : Type 1} → statement M
 zuc-words-spec =

@@ -1,11 +1,14 @@
 -- `mac::zuc256::compute` meets its contract: each answer of the keystream's start keeps its number; else the standard's tag.
 use mathlib.Core.List.{List}
 use mathlib.Core.Path.{_≡_, refl, sym, ap, _∙_, subst}
-use Prim.Native.Nat.{ℕ, _*_}
+use Prim.Native.Nat.{ℕ, _+_, _*_}
+use lib.Dec.{leb}
 use lib.ListN.{length}
 use borrow.Author.Needs.{needs}
 use borrow.Author.Tests.{leb-true, not-false, not-true}
 use denote.Ref.{now}
+use Rattle.standard.specs.Integrity.{drawnByTag-ZUC256}
+use Rattle.standard.specs.States.{limit}
 use Rattle.standard.proofs.Held.{Ready}
 use Rattle.zuc.specs.Reading.{heldOf}
 use Rattle.keystream.specs.Starts.{StartOutcome, startNumber, startTold}
@@ -30,7 +33,7 @@ module _ (n : tie.After-new-with-d) (e : startTold (n .new-with-d .result) .numb
       let a = n .before .before .before .before .args in
       accepted-width (a .width) (now (a .key)) (now (a .iv)) (ap (λ (o : StartOutcome). o .number) (sym (n .new-with-d .ensures)) ∙ e)
 
-  sound : Ready (heldOf (n .new-with-d .result .state))
+  sound : Ready (heldOf (n .new-with-d .result .state .z))
   sound =
       let v = n .before .before in
       let k = v .before in
@@ -47,6 +50,11 @@ told n =
     ap (λ (o : StartOutcome). once-from-256 (a .width) o (now (a .message)) (a .l)) (n .new-with-d .ensures)
     ∙ once-256-is (now (a .key)) (now (a .iv)) (a .width) (now (a .message)) (a .l)
 
+left : (h : tie.After-has-left)
+    → h .has-left .result
+    ≡ leb (0 + drawnByTag-ZUC256 (h .before .before .before .before .before .before .before .before .before .before .before .args .width * 8) (h .before .before .before .before .before .before .before .before .before .before .before .args .l)) limit
+left h = h .has-left .ensures ∙ ap (λ (n : ℕ). leb (0 + n) limit) (h .before .by-tag-256 .ensures)
+
 returns : tie.Need-returns
 unfolding once-from-256 tested
 returns c =
@@ -55,9 +63,30 @@ returns c =
     let n = m .before .before .before in
     sym (rw (ap startNumber (m .enum-told .given .1), sym (f .bits-fit .ensures) ∙ not-true (f .bits-fit .result) (c .if1 .taken)) refl) ∙ told n
 
+by-tag-256-requires : tie.Need-by-tag-256-requires
+by-tag-256-requires c κs =
+    let m = c .before .before in
+    width (m .before .before .before) (ap startNumber (m .enum-told .given .1))
+
+returns-2 : tie.Need-returns-2
+unfolding once-from-256 tested
+returns-2 c =
+    let h = c .before in
+    let i = h .before .before in
+    let f = i .before in
+    let m = f .before in
+    let n = m .before .before .before in
+    sym (rw (
+      ap startNumber (m .enum-told .given .1),
+      sym (f .bits-fit .ensures) ∙ not-false (f .bits-fit .result) (i .if1 .left),
+      sym (left h) ∙ not-true (h .has-left .result) (c .if2 .taken),
+    )
+    refl)
+    ∙ told n
+
 begin-256-requires : tie.Need-begin-256-requires
 begin-256-requires c κs =
-    let m = c .before .before .before .before .before .before in
+    let m = c .before .before .before .before .before .before .before .before .before in
     let n = m .before .before .before in
     let e = ap startNumber (m .enum-told .given .1) in
     (c .before .before .before .s0 .ensures, (c .before .before .s1 .ensures, (sound n e, width n e)))
@@ -65,7 +94,8 @@ begin-256-requires c κs =
 close-256-requires : tie.Need-close-256-requires
 close-256-requires c κs =
     let b = c .before .before in
-    let i = b .before .before .before .before .before in
+    let p = b .before .before .before .before .before in
+    let i = p .before .before .before in
     let f = i .before in
     let m = f .before in
     let n = m .before .before .before in
@@ -75,49 +105,54 @@ close-256-requires c κs =
       (
         b .before .before .before .s1 .ensures,
         (
-          held-as (b .begin-256 .ensures) (good-ZUC256 (width n e) (heldOf (n .new-with-d .result .state)) (sound n e)),
+          held-as (b .begin-256 .ensures) (good-ZUC256 (width n e) (heldOf (n .new-with-d .result .state .z)) (sound n e)),
           leb-true (a .l) (length (now (a .message)) * 8) (sym (f .bits-fit .ensures) ∙ not-false (f .bits-fit .result) (i .if1 .left)),
         ),
       ),
     )
 
-returns-2 : tie.Need-returns-2
+returns-3 : tie.Need-returns-3
 unfolding once-from-256 tested
-returns-2 c =
+returns-3 c =
     let b = c .before .before .before in
-    let i = b .before .before .before .before .before in
+    let p = b .before .before .before .before .before in
+    let i = p .before .before .before in
     let f = i .before in
     let m = f .before in
     let n = m .before .before .before in
     let a = n .before .before .before .before .args in
     let e = ap startNumber (m .enum-told .given .1) in
-    sym (rw (e, sym (f .bits-fit .ensures) ∙ not-false (f .bits-fit .result) (i .if1 .left))
+    sym (rw (
+      e,
+      sym (f .bits-fit .ensures) ∙ not-false (f .bits-fit .result) (i .if1 .left),
+      sym (left (p .before)) ∙ not-false (p .before .has-left .result) (p .if2 .left),
+    )
     (ap (λ (x : List ℕ). record { number = 0; tag = x })
     (sym (spelled-tag (c .close-256 .result) (tag-length c)
     ∙ c .close-256 .ensures
     ∙ at-packed (λ w st. tagWords w (closed-ZUC256 (w * 8) st (now (a .message)) (a .l))) (b .begin-256 .ensures)
-    (good-ZUC256 (width n e) (heldOf (n .new-with-d .result .state)) (sound n e))))))
+    (good-ZUC256 (width n e) (heldOf (n .new-with-d .result .state .z)) (sound n e))))))
     ∙ told n
-
-returns-3 : tie.Need-returns-3
-unfolding once-from-256 tested
-returns-3 c =
-    let n = c .before .before .before in
-    sym (rw (ap startNumber (c .enum-told2 .given .1)) refl) ∙ told n
 
 returns-4 : tie.Need-returns-4
 unfolding once-from-256 tested
 returns-4 c =
     let n = c .before .before .before in
-    sym (rw (ap startNumber (c .enum-told3 .given .1)) refl) ∙ told n
+    sym (rw (ap startNumber (c .enum-told2 .given .1)) refl) ∙ told n
 
 returns-5 : tie.Need-returns-5
 unfolding once-from-256 tested
 returns-5 c =
+    let n = c .before .before .before in
+    sym (rw (ap startNumber (c .enum-told3 .given .1)) refl) ∙ told n
+
+returns-6 : tie.Need-returns-6
+unfolding once-from-256 tested
+returns-6 c =
     let n = c .before .before .before in
     sym (rw (ap startNumber (c .enum-told4 .given .1)) refl) ∙ told n
 
 pub compute-spec : {M : Type 1} → statement M
 compute-spec =
     tie.close
-    (tie.spec (λ c κs. search needs) (λ c. search needs) (λ c κs. search needs) returns (λ c κs. search needs) (λ c κs. search needs) begin-256-requires close-256-requires (λ c. search needs) (λ c. search needs) (λ c. search needs) (λ c. search needs) (λ c. search needs) returns-2 returns-3 returns-4 returns-5)
+    (tie.spec (λ c κs. search needs) (λ c. search needs) (λ c κs. search needs) returns by-tag-256-requires (λ c κs. search needs) returns-2 (λ c κs. search needs) (λ c κs. search needs) begin-256-requires close-256-requires (λ c. search needs) (λ c. search needs) (λ c. search needs) (λ c. search needs) (λ c. search needs) returns-3 returns-4 returns-5 returns-6)

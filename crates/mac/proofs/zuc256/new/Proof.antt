@@ -1,13 +1,15 @@
 -- `mac::zuc256::new` meets its contract: each answer of the keystream's start keeps its number; else a tag state of the width.
-use mathlib.Core.Path.{_≡_, refl, sym, ap, _∙_, subst}
+use mathlib.Core.Path.{_≡_, refl, sym, ap, ap₂, _∙_, subst}
+use Prim.Native.Nat.{ℕ, _*_, _/_}
 use borrow.Author.Needs.{needs}
 use denote.Ref.{now}
 use Rattle.keystream.specs.declared.StartAnswer.{StartAnswer}
 use Rattle.keystream.specs.Starts.{StartOutcome, startNumber, startTag₂₅₆, startTold}
-use Rattle.mac_registers.specs.Stored.{storedOf}
+use Rattle.standard.specs.States.{Stored}
 use Rattle.mac.specs.Inner.{Live, begun-256}
+use Rattle.mac.specs.Reading.{taggedOf, taggedOf-256}
 use Rattle.mac.proofs.Accepted.{accepted-width, live-256}
-use Rattle.mac.proofs.Outcomes.{begun-256-is, refused-as, started-as}
+use Rattle.mac.proofs.Outcomes.{begun-256-is, begun-words, refused-as, started-as}
 use Rattle.mac.proofs.zuc256.new.Statement.{statement}
 use Rattle.mac.proofs.zuc256.new.Tie as tie
 
@@ -41,7 +43,10 @@ returns c =
     let m = c .before .before .before .before .before in
     let n = m .before .before .before in
     let a = n .before .before .before .args in
-    started-as (startTold (n .new-with-d .result)) (storedOf (c .begin-256 .result)) _ (ap startNumber (m .enum-told .given .1)) (c .begin-256 .ensures)
+    let e = ap startNumber (m .enum-told .given .1) in
+    started-as (startTold (n .new-with-d .result)) (taggedOf (c .begin-256 .result) (a .width / 4 * 3)) _ e
+    (ap₂ (λ (x : Stored) (k : ℕ). record { held = x; count = k }) (c .begin-256 .ensures)
+    (begun-words (accepted-width (a .width) (now (a .key)) (now (a .iv)) (zero-number n e))))
     ∙ ap (begun-256 (a .width)) (n .new-with-d .ensures)
     ∙ begun-256-is (now (a .key)) (now (a .iv)) (a .width)
 
@@ -52,12 +57,12 @@ returns-2 c =
     let n = m .before .before in
     let a = n .before .before .before .args in
     let r = c .refused in
-    ap (λ (x : StartAnswer). record { number = startNumber x; state = storedOf (r .result .mac .state) }) (r .ensures .0)
-    ∙ refused-as (startTold (n .new-with-d .result)) (storedOf (r .result .mac .state)) _ (n .new-with-d .result .answer) (m .match .keys2) refl (r .ensures .1)
+    ap (λ (x : StartAnswer). record { number = startNumber x; state = taggedOf-256 (r .result .mac) }) (r .ensures .0)
+    ∙ refused-as (startTold (n .new-with-d .result)) (taggedOf-256 (r .result .mac)) _ (n .new-with-d .result .answer) (m .match .keys2) refl (r .ensures .1)
     ∙ ap (begun-256 (a .width)) (n .new-with-d .ensures)
     ∙ begun-256-is (now (a .key)) (now (a .iv)) (a .width)
 
 pub new-spec : {M : Type 1} → statement M
 new-spec =
     tie.close
-    (tie.spec (λ c κs. search needs) (λ c. search needs) (λ c κs. search needs) (λ c κs. search needs) begin-256-requires (λ c κs. search needs) returns returns-2)
+    (tie.spec (λ c κs. search needs) (λ c. search needs) (λ c κs. search needs) (λ c κs. search needs) begin-256-requires (λ c. search needs) (λ c κs. search needs) returns returns-2)

@@ -3,13 +3,13 @@ use mathlib.Core.Bool.{Bool}
 use mathlib.Core.Path.{_∙_, ap}
 use borrow.Author.Needs.{needs}
 use denote.Ref.{now}
-use Rattle.mac_registers.specs.Stored.{storedOf}
 use Rattle.mac.specs.Calls.{updateOutcome}
+use Rattle.mac.specs.Reading.{taggedOf-256}
 use Rattle.mac.proofs.zuc256.update.Statement.{statement}
 use Rattle.mac.proofs.zuc256.update.Tie as tie
 
 update-state-requires : tie.Need-update-state-requires
-update-state-requires c κs = c .is-formed .ensures .1
+update-state-requires c κs = c .is-formed-256 .ensures .1
 
 returns : tie.Need-returns
 returns c =
@@ -17,7 +17,7 @@ returns c =
     let f = u .before in
     let a = f .before .before .before .args in
     u .update-state .ensures
-    ∙ ap (λ (b : Bool). updateOutcome b (storedOf (a .mac .state)) (now (a .message))) (f .is-formed .ensures .0)
+    ∙ ap (λ (b : Bool). updateOutcome b (taggedOf-256 (a .mac)) (now (a .message))) (f .is-formed-256 .ensures .0)
 
 pub update-spec : {M : Type 1} → statement M
 update-spec = tie.close (tie.spec (λ c κs. search needs) update-state-requires returns)

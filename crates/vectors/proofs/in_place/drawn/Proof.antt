@@ -41,10 +41,10 @@ use denote.Exit.{yes}
 use Rattle.keystream.specs.declared.DrawAnswer.{DrawAnswer}
 use Rattle.keystream.specs.declared.Drew.{Drew}
 use Rattle.keystream.specs.Draws.{drawOutcome, drawTold}
-use Rattle.zuc.specs.declared.Zuc.{Zuc}
-use Rattle.zuc.specs.Reading.{heldOf}
-use Rattle.zuc.proofs.Zuc as T
-use Rattle.zuc.proofs.Zuc.Laws as T′
+use Rattle.zuc.specs.declared.Generator.{Generator}
+use Rattle.zuc.specs.Reading.{countedOf}
+use Rattle.zuc.proofs.Generator as T
+use Rattle.zuc.proofs.Generator.Laws as T′
 use Rattle.keystream.proofs.Drew as D
 use Rattle.keystream.proofs.Drew.Laws as D′
 use Rattle.keystream.proofs.DrawAnswer as E
@@ -65,32 +65,32 @@ stayed = (stay-none (λ _. T.the-row) yes, tt)
 abbrev answered : DrawAnswer → Val
 answered = EL.val E.the-type E′.the-laws
 
-abbrev Right : Zuc → Drew → Type 0
-Right z r = drawTold r ≡ drawOutcome (heldOf z)
+abbrev Right : Generator → Drew → Type 0
+Right z r = drawTold r ≡ drawOutcome (countedOf z)
 
 -- what is returned
-abbrev both : Zuc → DrawAnswer → Drew
+abbrev both : Generator → DrawAnswer → Drew
 both y r = record { answer = r; state = y }
 
 -- the contract that the proof cites
 abbrev InPlace : {M : Type 1} (𝓤 : URA M) (H : Heap 𝓤) (A : Atoms 𝓤) (at-mem : Memory → SProp 𝓤) (run : Routine → Fun 𝓤) → Contract 𝓤
 InPlace 𝓤 H A at-mem run = tripleOf 𝓤 H A in-place.signature (in-place.spec 𝓤 H A at-mem run)
 
-module _ {M : Type 1} (𝓤 : URA M) (H : Heap 𝓤) (A : Atoms 𝓤) (W : Given 𝓤 H A) (at-mem : Memory → SProp 𝓤) (run : Routine → Fun 𝓤) (z : Zuc) (z-is : Is T.the-row z (mach z ∷ [])) where
+module _ {M : Type 1} (𝓤 : URA M) (H : Heap 𝓤) (A : Atoms 𝓤) (W : Given 𝓤 H A) (at-mem : Memory → SProp 𝓤) (run : Routine → Fun 𝓤) (z : Generator) (z-is : Is T.the-row z (mach z ∷ [])) where
   abbrev Post : Val → SProp 𝓤
   Post = walkOf 𝓤 H A drawn.ended stayed (drawn.clauses 𝓤 H A at-mem run) .post ((tt, tt, tt, (z, tt), (mach z ∷ [], tt)), tt)
 
-  made : (y : Zuc) (r : DrawAnswer) → Is T.the-row y (mach y ∷ []) → Is E.the-row r (answered r ∷ []) → Is D.the-row (both y r) (LL.vals D.the-type D′.the-laws (both y r))
+  made : (y : Generator) (r : DrawAnswer) → Is T.the-row y (mach y ∷ []) → Is E.the-row r (answered r ∷ []) → Is D.the-row (both y r) (LL.vals D.the-type D′.the-laws (both y r))
   made y r y-is r-is = LL.owes D.the-type D′.the-laws (both y r) (r-is, (y-is, tt))
 
-  exits : (y : Zuc) (r : DrawAnswer) → Is T.the-row y (mach y ∷ []) → Is E.the-row r (answered r ∷ []) → Right z (both y r) → ent 𝓤 (emp 𝓤) (Post (LL.val D.the-type D′.the-laws (both y r)))
+  exits : (y : Generator) (r : DrawAnswer) → Is T.the-row y (mach y ∷ []) → Is E.the-row r (answered r ∷ []) → Right z (both y r) → ent 𝓤 (emp 𝓤) (Post (LL.val D.the-type D′.the-laws (both y r)))
   exits y r y-is r-is e =
       qed W [] ∵ suffices ! _ (ends-at 𝓤 H A drawn.ended stayed (drawn.clauses 𝓤 H A at-mem run) W ((tt, tt, tt, (z, tt), (mach z ∷ [], tt)), tt) (LL.val D.the-type D′.the-laws (both y r)) (both y r) (tt, tt) (tt, tt)) $ says ! e $
       owned ! D.the-row (Is D.the-row) (LL.makes D.the-type D′.the-plain 𝓤 H A) (both y r) _ (made y r y-is r-is) $ nothing ! $
       owned ! T.the-row (Is T.the-row) (LL.makes T.the-type T′.the-plain 𝓤 H A) z (mach z ∷ []) z-is $ fjoin ! $ nothing ! $ done !
 
   -- the local at l, lent under the name γ; and what `generate_in_place`'s triple binds outside
-  abbrev x : ℕ → GName → RefT Zuc
+  abbrev x : ℕ → GName → RefT Generator
   x l γ = record { ptr = (l, 0); name = γ; now = z }
 
   abbrev to : ℕ → ℕ → GName → InPlace 𝓤 H A at-mem run .Ghost
@@ -117,7 +117,7 @@ module _ {M : Type 1} (𝓤 : URA M) (H : Heap 𝓤) (A : Atoms 𝓤) (W : Given
         calls-at ! fm (InPlace 𝓤 H A at-mem run) known (to l₂ ν γ) (and-then ! (load ! (from ! (stop !)) (look ! 4 refl)) (no-more !)) (λ w.
         use1 W (later (some (λ (r : DrawAnswer). ((‵ (flft (ν ∷ []) fullShare) ⊛ ‵ ftrue) ⊛ ‵ (E.the-row .own r (w ∷ []))) ⊛ raw (ensured 𝓤 H A in-place.ended (in-place.clauses 𝓤 H A at-mem run) (ν ∷ [], tt) (x l₂ γ, tt) tt r)))) (id⊢ 𝓤 _) $ await ! tt $ pick ! (λ r.
         -- what `generate_in_place` ensures, at some last generator
-        split ! $ move ! (1 ∷ []) $ use1 W (some (λ (ys : Zuc × Unit {0}). ‵ (lasts in-place.ended (ν ∷ [], tt) (x l₂ γ, tt) ys) ⊛ raw (fact 𝓤 (Right z (both (ys .0) r))))) (id⊢ 𝓤 _) $ pick ! (λ ys.
+        split ! $ move ! (1 ∷ []) $ use1 W (some (λ (ys : Generator × Unit {0}). ‵ (lasts in-place.ended (ν ∷ [], tt) (x l₂ γ, tt) ys) ⊛ raw (fact 𝓤 (Right z (both (ys .0) r))))) (id⊢ 𝓤 _) $ pick ! (λ ys.
         split ! $ move ! (1 ∷ []) $ heard ! (Right z (both (ys .0) r)) (λ e. fsplit ! $ move ! (2 ∷ []) $ split ! $ move ! (1 ∷ []) $
         peeks ! E.the-row (Is E.the-row) (shows 𝓤 H A E.the-row) r (w ∷ []) (λ is.
         -- [what the answer owns; the token; the last value; true; the lender's part; _5; …; _4; …; _3; …; _2's end; _1; …; room for _0; …; true; what z owns]
