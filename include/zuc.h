@@ -7,8 +7,9 @@
  *
  * ANSWERS. Every function returns 0 when it has done its work and otherwise the
  * number of a refusal. Where several apply, the one that is checked first is
- * given: ZUC_BAD_WIDTH .. ZUC_BAD_BITS in the order of their numbers, those of a
- * guard in the order ZUC_BAD_LINK, ZUC_BAD_AGE, ZUC_BAD_REUSE.
+ * given: ZUC_BAD_WIDTH .. ZUC_BAD_BITS in the order of their numbers and then
+ * ZUC_SPENT, those of a guard in the order ZUC_BAD_LINK, ZUC_BAD_AGE,
+ * ZUC_BAD_REUSE.
  *
  * REFUSALS ALTER NOTHING that a caller could go on with:
  *   - a state that was lent to a draw, mask, update or finish stays as it came,
@@ -21,6 +22,14 @@
  * they may be copied, moved and stored. They are as secret as the key. A state
  * is never trusted: a function that is lent one looks at it first and refuses it
  * when it is malformed, whatever numbers it holds.
+ *
+ * A LIMIT PER START. A start is spent once ZUC_WORDS_PER_START words are drawn
+ * from it: what a 128-EIA3 tag of 2^32 bits draws. A state counts them. A call
+ * that would draw more words than are left is refused with ZUC_SPENT, after all
+ * other checks and before it alters anything; one that would draw as many as are
+ * left, or fewer, is not. So a call that draws no word is never refused with it,
+ * and neither is a start. Words are counted as whole numbers: no buffer or
+ * message is too long to be counted rightly. What a call draws is said beside it.
  *
  * LENDING. A pointer with a length `n` is to n elements; it may be NULL if n is
  * 0. Every other pointer is to one object of the type shown and is not NULL.
@@ -45,16 +54,25 @@
 extern "C" {
 #endif
 
-/*
- * Words of a generator's state: sixteen places, then R1, R2, and a start index of
- * 0..15. The cells stay put and are to be read from the index: cell j of the
- * standard stands at place (index + j) mod 16. A start leaves index 0. A draw
- * writes one cell, R1, R2 and the index, which goes up by one, from 15 back to 0.
- */
-#define ZUC_STATE_WORDS 19
+/* How many words can be drawn from one start. */
+#define ZUC_WORDS_PER_START 134217730
 
-/* Words of a tag's state. What stands where is the library's own affair. */
-#define ZUC_TAG_WORDS 20
+/*
+ * Words of a generator's state: sixteen places, then R1, R2, a start index of
+ * 0..15, and at place 19 how many words are drawn, 0..ZUC_WORDS_PER_START. The
+ * cells stay put and are to be read from the index: cell j of the standard stands
+ * at place (index + j) mod 16. A start leaves index 0 and count 0. A draw writes
+ * one cell, R1, R2, the index, which goes up by one, from 15 back to 0, and the
+ * count, which goes up by one.
+ */
+#define ZUC_STATE_WORDS 20
+
+/*
+ * Words of a tag's state. What stands where is the library's own affair. It counts
+ * its words, too: a start draws 2 of them, one of ZUC-256 3 * width / 4; and it is
+ * malformed if that count is above ZUC_WORDS_PER_START.
+ */
+#define ZUC_TAG_WORDS 21
 
 /* Refusals, in the order in which they are checked; the guard's own come last. */
 #define ZUC_BAD_WIDTH 1u /* the tag width is not 4, 8 or 16 bytes */
@@ -62,15 +80,17 @@ extern "C" {
 #define ZUC_BAD_IV 3u    /* the IV is not 16 bytes, or 23 for ZUC-256 */
 #define ZUC_BAD_STATE 4u /* the state is malformed: refused, finished or spoilt */
 #define ZUC_BAD_BITS 5u  /* the bit length is more than 8 times the bytes lent */
+#define ZUC_SPENT 16u    /* the call would draw more words than the start has left */
 #define ZUC_BAD_LINK 13u /* no such link in the table */
 #define ZUC_BAD_AGE 12u  /* the COUNT is more than 63 below the highest */
 #define ZUC_BAD_REUSE 11u /* the COUNT was already accepted */
 
 /* ---------------------------------------------------------------------------
  * Generators. A state is malformed when one of its sixteen cells is outside
- * 1..2147483647 or its start index is above 15; any R1 and R2 will do. States
- * whose cells agree, each read from its own index, and whose R1 and R2 agree, are
- * one state in different turns: every call answers the same to them.
+ * 1..2147483647, its start index is above 15 or its count is above
+ * ZUC_WORDS_PER_START; any R1 and R2 will do. States whose cells agree, each read
+ * from its own index, and whose R1, R2 and counts agree, are one state in
+ * different turns: every call answers the same to them.
  * ------------------------------------------------------------------------- */
 
 /*
@@ -106,8 +126,8 @@ uint32_t eea3_start(uint32_t state[ZUC_STATE_WORDS],
 /*
  * Draws the next word of the keystream.
  *
- * Sets *word and moves `state` on by one word. Refuses with ZUC_BAD_STATE:
- * *word is then 0, the state as it came.
+ * Sets *word and moves `state` on by one word. Refuses with ZUC_BAD_STATE,
+ * ZUC_SPENT: *word is then 0, the state as it came.
  */
 uint32_t zuc_draw(uint32_t state[ZUC_STATE_WORDS], uint32_t *word);
 
@@ -115,8 +135,8 @@ uint32_t zuc_draw(uint32_t state[ZUC_STATE_WORDS], uint32_t *word);
  * Draws the next n words of the keystream: n calls of zuc_draw in one.
  *
  * Fills out[0..n-1] and moves `state` on by n words; with n = 0 it only checks
- * the state. Refuses with ZUC_BAD_STATE: `out` and the state are then as they
- * came.
+ * the state. Refuses with ZUC_BAD_STATE, ZUC_SPENT (never if n = 0): `out` and the
+ * state are then as they came, even if some of the words were left.
  */
 uint32_t zuc_words(uint32_t state[ZUC_STATE_WORDS], uint32_t *out, size_t n);
 
@@ -135,8 +155,8 @@ uint32_t zuc_words(uint32_t state[ZUC_STATE_WORDS], uint32_t *out, size_t n);
  * that crate byte for byte.
  *
  * Alters `buf`, moves `state` on by the words drawn and sets *count to their
- * number. Refuses with ZUC_BAD_STATE, ZUC_BAD_BITS: *count is then 0, the buffer
- * and the state as they came.
+ * number. Refuses with ZUC_BAD_STATE, ZUC_BAD_BITS, ZUC_SPENT: *count is then 0,
+ * the buffer and the state as they came.
  */
 uint32_t zuc_mask_crate(uint32_t state[ZUC_STATE_WORDS],
                         uint8_t *buf, size_t len, size_t bits, size_t *count);
@@ -146,8 +166,8 @@ uint32_t zuc_mask_crate(uint32_t state[ZUC_STATE_WORDS],
  * zuc_mask_crate.
  *
  * Alters `buf`, moves `state` on by the words drawn and sets *count to their
- * number. Refuses with ZUC_BAD_STATE, ZUC_BAD_BITS: *count is then 0, the buffer
- * and the state as they came.
+ * number. Refuses with ZUC_BAD_STATE, ZUC_BAD_BITS, ZUC_SPENT: *count is then 0,
+ * the buffer and the state as they came.
  */
 uint32_t zuc_mask_clean(uint32_t state[ZUC_STATE_WORDS],
                         uint8_t *buf, size_t len, size_t bits, size_t *count);
@@ -163,6 +183,13 @@ uint32_t zuc_mask_clean(uint32_t state[ZUC_STATE_WORDS],
  * stands in a state says how it is read. So the first two refuse every ZUC-256
  * state of 64 or 128 bits; states of 32 bits look alike, and the caller must
  * know whose they are.
+ *
+ * After N bytes of message in all, a ZUC-128 or EIA3 tag has drawn 2 + N/4 words,
+ * one of ZUC-256, t bits, t/32 * (3 + 8N/t). A finish that brings the message to L
+ * bits would bring that to 2 + L/32, where L/32 is rounded up, or to
+ * t/32 * (3 + L/t). A call would draw what is between. So a tag in steps is
+ * refused with ZUC_SPENT for the same messages as one at once; and an empty
+ * update, or a finish that needs no fresh word, is never refused with it.
  * ------------------------------------------------------------------------- */
 
 /*
@@ -199,7 +226,8 @@ uint32_t zuc256_tag_start(uint64_t state[ZUC_TAG_WORDS], size_t width,
  * Takes the next `len` bytes of the message into a ZUC-128 or EIA3 tag. With
  * len = 0 it only checks the state.
  *
- * Alters `state`. Refuses with ZUC_BAD_STATE: the state is then as it came.
+ * Alters `state`. Refuses with ZUC_BAD_STATE, ZUC_SPENT: the state is then as it
+ * came.
  */
 uint32_t zuc128_tag_update(uint64_t state[ZUC_TAG_WORDS],
                            const uint8_t *msg, size_t len);
@@ -208,7 +236,8 @@ uint32_t zuc128_tag_update(uint64_t state[ZUC_TAG_WORDS],
  * Takes the next `len` bytes of the message into a ZUC-256 tag. With len = 0 it
  * only checks the state.
  *
- * Alters `state`. Refuses with ZUC_BAD_STATE: the state is then as it came.
+ * Alters `state`. Refuses with ZUC_BAD_STATE, ZUC_SPENT: the state is then as it
+ * came.
  */
 uint32_t zuc256_tag_update(uint64_t state[ZUC_TAG_WORDS],
                            const uint8_t *msg, size_t len);
@@ -218,8 +247,8 @@ uint32_t zuc256_tag_update(uint64_t state[ZUC_TAG_WORDS],
  * ZUC-128 or EIA3 tag.
  *
  * Sets tag[0], tag[1] and fills `state` with zeros, so that a tag closes once.
- * Refuses with ZUC_BAD_STATE, ZUC_BAD_BITS: the tag is then 0, the state as it
- * came.
+ * Refuses with ZUC_BAD_STATE, ZUC_BAD_BITS, ZUC_SPENT: the tag is then 0, the
+ * state as it came.
  */
 uint32_t zuc128_tag_finish(uint64_t state[ZUC_TAG_WORDS],
                            const uint8_t *tail, size_t len, size_t bits,
@@ -230,22 +259,24 @@ uint32_t zuc128_tag_finish(uint64_t state[ZUC_TAG_WORDS],
  * ZUC-256 tag of the width that it was started with.
  *
  * Sets tag[0], tag[1] and fills `state` with zeros, so that a tag closes once.
- * Refuses with ZUC_BAD_STATE, ZUC_BAD_BITS: the tag is then 0, the state as it
- * came.
+ * Refuses with ZUC_BAD_STATE, ZUC_BAD_BITS, ZUC_SPENT: the tag is then 0, the
+ * state as it came.
  */
 uint32_t zuc256_tag_finish(uint64_t state[ZUC_TAG_WORDS],
                            const uint8_t *tail, size_t len, size_t bits,
                            uint64_t tag[2]);
 
 /* ---------------------------------------------------------------------------
- * Tags, at once: start and finish in one call, with nothing left to keep.
+ * Tags, at once: start and finish in one call, with nothing left to keep. They are
+ * refused with ZUC_SPENT above 2^32 bits, those of ZUC-256 from 2^32 bits on at a
+ * width of 4 bytes, from 2^32 - 64 at 8 and from 2^32 - 256 at 16.
  * ------------------------------------------------------------------------- */
 
 /*
  * The ZUC-128 tag, 32 bits, of the first `bits` bits of `msg`.
  *
- * Sets tag[0], tag[1]. Refuses with ZUC_BAD_KEY, ZUC_BAD_IV, ZUC_BAD_BITS: the
- * tag is then 0.
+ * Sets tag[0], tag[1]. Refuses with ZUC_BAD_KEY, ZUC_BAD_IV, ZUC_BAD_BITS,
+ * ZUC_SPENT: the tag is then 0.
  */
 uint32_t zuc128_tag(const uint8_t *key, size_t key_len,
                     const uint8_t *iv, size_t iv_len,
@@ -256,8 +287,8 @@ uint32_t zuc128_tag(const uint8_t *key, size_t key_len,
  * The 128-EIA3 tag, 32 bits, of the first `bits` bits of `msg`. Bearer and
  * direction are read as by eia3_tag_start.
  *
- * Sets tag[0], tag[1]. Refuses with ZUC_BAD_KEY, ZUC_BAD_BITS: the tag is then
- * 0.
+ * Sets tag[0], tag[1]. Refuses with ZUC_BAD_KEY, ZUC_BAD_BITS, ZUC_SPENT: the tag
+ * is then 0.
  */
 uint32_t eia3_tag(uint32_t count, uint8_t bearer, uint8_t direction,
                   const uint8_t *key, size_t key_len,
@@ -268,7 +299,7 @@ uint32_t eia3_tag(uint32_t count, uint8_t bearer, uint8_t direction,
  * The ZUC-256 tag, `width` bytes, of the first `bits` bits of `msg`.
  *
  * Sets tag[0], tag[1]. Refuses with ZUC_BAD_WIDTH, ZUC_BAD_KEY, ZUC_BAD_IV,
- * ZUC_BAD_BITS: the tag is then 0.
+ * ZUC_BAD_BITS, ZUC_SPENT: the tag is then 0.
  */
 uint32_t zuc256_tag(size_t width,
                     const uint8_t *key, size_t key_len,

@@ -4,11 +4,14 @@ use std::fmt::LowerHex;
 
 use yegetmur::capi::{self, State, TagState, STATE_WORDS, TAG_WORDS};
 
+use crate::drawn::{drawn_by_tag, Words};
 use crate::input::{Call, Input, Mode, Start, Tagger};
 use crate::quiet::caught;
 use crate::report::Trial;
 use crate::ring::Ring;
-use crate::rules::{bits_refusal, first, start_refusal, BAD_STATE};
+use crate::rules::{
+    bits_refusal, first, limit_refusal, mask_words, start_refusal, BAD_STATE, LIMIT, SPENT,
+};
 use crate::users::{with_crate, with_port};
 use crate::{layout, model, original, port, turn};
 
@@ -98,7 +101,7 @@ fn started(start: Start, input: &Input) -> Result<Option<Ring>, String> {
     }
     let ring = Ring::turned(&original::start_state(start, input), 0);
     same_list("state after the start", &ring.array(), &state)?;
-    Ok(Some(ring))
+    Ok(Some(ring.counted(input.left.map_or(0, |left| LIMIT - left))))
 }
 
 fn words(start: Start, input: &Input) -> Verdict {
@@ -114,22 +117,35 @@ fn words(start: Start, input: &Input) -> Verdict {
 
 /// Words from a well-formed state, one at a time and in one call.
 fn draws(ring: &Ring, expected: &[u32]) -> Verdict {
-    let after = ring.after(expected.len()).array();
-    let mut one = ring.array();
-    let mut drawn = vec![!0; expected.len()];
-    for word in &mut drawn {
-        same("refusal of zuc_draw", 0, capi::zuc_draw(&mut one, word))?;
-    }
-    same_list("words by zuc_draw", expected, &drawn)?;
-    same_list("state after zuc_draw", &after, &one)?;
-
+    single_draws(ring, expected)?;
+    let refusal = limit_refusal(ring.count(), expected.len());
+    let nothing = vec![!0; expected.len()];
+    let (words, after) = match refusal {
+        0 => (expected, ring.after(expected.len()).array()),
+        _ => (&nothing[..], ring.array()),
+    };
     let mut all = ring.array();
     let mut out = vec![!0; expected.len() + 2];
     let lent = &mut out[1..=expected.len()];
-    same("refusal of zuc_words", 0, capi::zuc_words(&mut all, lent))?;
-    same_list("words by zuc_words", expected, lent)?;
+    same("refusal of zuc_words", refusal, capi::zuc_words(&mut all, lent))?;
+    same_list("words by zuc_words", words, lent)?;
     same_list("state after zuc_words", &after, &all)?;
     same_list("words around those lent", &[!0; 2], &[out[0], out[out.len() - 1]])
+}
+
+/// As many as are left, one at a time; every further one is refused.
+fn single_draws(ring: &Ring, expected: &[u32]) -> Verdict {
+    let left = expected.len().min(LIMIT - ring.count());
+    let mut state = ring.array();
+    let mut drawn = vec![!0; expected.len()];
+    for (i, word) in drawn.iter_mut().enumerate() {
+        let refusal = if i < left { 0 } else { SPENT };
+        same("refusal of zuc_draw", refusal, capi::zuc_draw(&mut state, word))?;
+    }
+    let mut words = expected.to_vec();
+    words[left..].fill(0);
+    same_list("words by zuc_draw", &words, &drawn)?;
+    same_list("state after zuc_draw", &ring.after(left).array(), &state)
 }
 
 fn mask(mode: Mode, start: Start, input: &Input) -> Verdict {
@@ -152,8 +168,12 @@ fn mask(mode: Mode, start: Start, input: &Input) -> Verdict {
 fn masked_from(mode: Mode, ring: &Ring, input: &Input) -> Verdict {
     let Input { data, bits, .. } = input;
     let mut expected = data.clone();
-    let drawn = original::mask(&mut ring.meaning(), &mut expected, *bits);
-    if mode == Mode::Clean && drawn.is_some() {
+    let by_crate = original::mask(&mut ring.meaning(), &mut expected, *bits);
+    let spent = limit_refusal(ring.count(), mask_words(data.len()));
+    let drawn = by_crate.filter(|_| spent == 0);
+    if drawn.is_none() {
+        expected.copy_from_slice(data);
+    } else if mode == Mode::Clean {
         let words = original::words(&mut ring.meaning(), data.len().div_ceil(4));
         expected = model::clean(&words, data, *bits);
     }
@@ -168,8 +188,10 @@ fn masked_from(mode: Mode, ring: &Ring, input: &Input) -> Verdict {
     buffer.copy_from_slice(data);
     let refusal = port::mask(mode, &mut port_state, buffer, *bits, &mut count);
 
-    same("refusal of the mask", bits_refusal(*bits, data.len()), refusal)?;
-    same_refusal("mask", drawn.is_none(), refusal)?;
+    same("refusal of the mask", first(bits_refusal(*bits, data.len()), spent), refusal)?;
+    if spent == 0 {
+        same_refusal("mask", by_crate.is_none(), refusal)?;
+    }
     same("words that the mask drew", drawn.unwrap_or(0), count)?;
     same_list("buffer", &expected, buffer)?;
     same_list("state after the mask", &expected_state, &port_state)?;
@@ -200,19 +222,27 @@ fn tag(tagger: Tagger, input: &Input) -> Verdict {
     Ok(())
 }
 
-/// The one-shot. Nothing is expected where it is to be refused.
-fn tag_at_once(tagger: Tagger, input: &Input, expected: Option<u128>) -> Verdict {
+/// The one-shot. Nothing is expected where it is refused for its lengths.
+pub fn tag_at_once(tagger: Tagger, input: &Input, expected: Option<u128>) -> Verdict {
     let refusal = first(start_refusal(input), bits_refusal(input.bits, input.data.len()));
+    let (extra_word, width) = tagger.kind();
+    let spent = match refusal {
+        0 => limit_refusal(0, drawn_by_tag(extra_word, width, input.bits)),
+        _ => 0,
+    };
     let mut tag = [!0; 2];
-    same("refusal at once", refusal, port::tag_at_once(tagger, input, &mut tag))?;
-    if start_refusal(input) == 0 {
+    let answer = port::tag_at_once(tagger, input, &mut tag);
+    same("refusal at once", first(refusal, spent), answer)?;
+    if start_refusal(input) == 0 && spent == 0 {
         same_refusal("tag at once", expected.is_none(), refusal)?;
     }
+    let expected = expected.filter(|_| spent == 0);
     same_list("tag at once", &expected.map_or([0; 2], |tag| port::split(tagger, tag)), &tag)
 }
 
-/// Updates and finish from the state after the start.
-fn tag_in_steps(
+/// Updates and finish from the state after the start. Nothing is expected where the crate
+/// refuses the finish.
+pub fn tag_in_steps(
     tagger: Tagger,
     input: &Input,
     mut state: TagState,
@@ -222,31 +252,66 @@ fn tag_in_steps(
         .then(|| Ring::turned(&original::tag_start_state(tagger, input), 0))
         .map(|generator| model::Tag::start(tagger, generator));
     same_tag_state("tag state after the start", &model, &state)?;
+    let mut words = Words::started(tagger.kind());
+    same_count("words drawn by the start", &words, &state)?;
+    if let Some(left) = input.left {
+        state[layout::DRAWN] = (LIMIT - left) as u64;
+        words = words.counted(LIMIT - left);
+        model = model.map(|model| model.counted(LIMIT - left));
+    }
     for piece in input.pieces() {
-        same("refusal of an update", 0, port::tag_update(tagger, &mut state, piece))?;
+        let before = state;
+        let refusal = words.update(piece.len());
+        same("refusal of an update", refusal, port::tag_update(tagger, &mut state, piece))?;
+        if refusal != 0 {
+            return same_list("tag state after a refused update", &before, &state);
+        }
         if let Some(model) = &mut model {
             model.update(piece);
         }
         same_tag_state("tag state after an update", &model, &state)?;
+        same_count("words drawn by updates", &words, &state)?;
     }
+    let spent = if expected.is_none() { 0 } else { words.finish(input.bits) };
+    tag_finish(tagger, input, state, expected, spent)?;
+    match (model, expected) {
+        (Some(model), Some(expected)) if spent == 0 => {
+            let tag = model.finish(input.tail(), input.bits);
+            same("the crate's tag and the model's", tag, expected)
+        }
+        _ => Ok(()),
+    }
+}
 
+/// The finish, with the number by which the limit refuses it.
+fn tag_finish(
+    tagger: Tagger,
+    input: &Input,
+    mut state: TagState,
+    expected: Option<u128>,
+    spent: u32,
+) -> Verdict {
     let (before, tail) = (state, input.tail());
     let mut tag = [!0; 2];
     let refusal = port::tag_finish(tagger, &mut state, tail, input.bits, &mut tag);
-    same("refusal of the finish", bits_refusal(input.bits, tail.len()), refusal)?;
-    same_refusal("finish", expected.is_none(), refusal)?;
-    let Some(expected) = expected else {
-        same_list("tag of a refused finish", &[0; 2], &tag)?;
-        return same_list("tag state after a refused finish", &before, &state);
-    };
-    same_list("tag in steps", &port::split(tagger, expected), &tag)?;
-    same_list("tag state after the finish", &[0; TAG_WORDS], &state)?;
-    match model {
-        Some(model) => {
-            same("the crate's tag and the model's", model.finish(tail, input.bits), expected)
-        }
-        None => Ok(()),
+    same("refusal of the finish", first(bits_refusal(input.bits, tail.len()), spent), refusal)?;
+    if spent == 0 {
+        same_refusal("finish", expected.is_none(), refusal)?;
     }
+    match expected {
+        Some(expected) if spent == 0 => {
+            same_list("tag in steps", &port::split(tagger, expected), &tag)?;
+            same_list("tag state after the finish", &[0; TAG_WORDS], &state)
+        }
+        _ => {
+            same_list("tag of a refused finish", &[0; 2], &tag)?;
+            same_list("tag state after a refused finish", &before, &state)
+        }
+    }
+}
+
+fn same_count(what: &str, words: &Words, state: &TagState) -> Verdict {
+    same(what, words.count() as u64, state[layout::DRAWN])
 }
 
 fn same_tag_state(what: &str, model: &Option<model::Tag>, state: &TagState) -> Verdict {
@@ -309,13 +374,15 @@ fn lent_update(
 ) -> Verdict {
     let mut lent = *array;
     let refusal = port::tag_update(tagger, &mut lent, &input.data);
-    let Some(mut model) = model else {
-        same("refusal of an update", BAD_STATE, refusal)?;
-        return same_list("tag state after a refused update", array, &lent);
-    };
-    same("refusal of an update", 0, refusal)?;
-    model.update(&input.data);
-    same_list("tag state after an update", &layout::pack(&model.parts()), &lent)
+    let expected = model.as_ref().map_or(BAD_STATE, |tag| tag.words().update(input.data.len()));
+    same("refusal of an update", expected, refusal)?;
+    match model {
+        Some(mut model) if refusal == 0 => {
+            model.update(&input.data);
+            same_list("tag state after an update", &layout::pack(&model.parts()), &lent)
+        }
+        _ => same_list("tag state after a refused update", array, &lent),
+    }
 }
 
 fn lent_finish(
@@ -325,8 +392,11 @@ fn lent_finish(
     input: &Input,
 ) -> Verdict {
     let Input { data, bits, .. } = input;
-    let malformed = if model.is_none() { BAD_STATE } else { 0 };
-    let expected = first(malformed, bits_refusal(*bits, data.len()));
+    let expected = match (&model, bits_refusal(*bits, data.len())) {
+        (None, _) => BAD_STATE,
+        (Some(model), 0) => model.words().finish(*bits),
+        (_, refusal) => refusal,
+    };
     let (mut lent, mut tag) = (*array, [!0; 2]);
     let refusal = port::tag_finish(tagger, &mut lent, data, *bits, &mut tag);
     same("refusal of a finish", expected, refusal)?;

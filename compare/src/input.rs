@@ -22,6 +22,16 @@ pub enum Tagger {
     Zuc256 { width: usize },
 }
 
+impl Tagger {
+    /// Whether it closes as EIA3 does, with one word more; and its width in bytes.
+    pub fn kind(self) -> (bool, usize) {
+        match self {
+            Self::Zuc128 | Self::Eia3 => (true, 4),
+            Self::Zuc256 { width } => (false, width),
+        }
+    }
+}
+
 /// What masking leaves past the bit length.
 #[derive(Clone, Copy, PartialEq, Eq, Debug)]
 pub enum Mode {
@@ -60,6 +70,8 @@ pub struct Input {
     pub bits: usize,
     pub words: usize,
     pub array: Vec<u64>,
+    /// How many words a state that a start gave is set to have left, if it is.
+    pub left: Option<usize>,
 }
 
 impl Input {
@@ -78,6 +90,7 @@ impl Input {
             bits: 0,
             words: 0,
             array: Vec::new(),
+            left: None,
         }
     }
 
@@ -153,6 +166,9 @@ impl fmt::Display for Input {
         }
         if matches!(self.call, Call::Words(_) | Call::LentState | Call::StateTurns) {
             write!(f, " words={}", self.words)?;
+        }
+        if let Some(left) = self.left {
+            write!(f, ", {left} words left after the start")?;
         }
         Ok(())
     }

@@ -5,13 +5,14 @@
 
 use yegetmur::capi::{TagState, TAG_WORDS};
 
-/// The generator's places, R1 and R2; its start index; the key pair and the tag in 64-bit
-/// words (as many as the width asks, the others zero); the bytes that wait for a block
-/// with zeros after them, their count; the tag's width in bytes.
+/// The generator's places, R1 and R2; its start index; how many words it has drawn; the key
+/// pair and the tag in 64-bit words (as many as the width asks, the others zero); the bytes
+/// that wait for a block with zeros after them, their count; the tag's width in bytes.
 #[derive(Clone, PartialEq, Debug)]
 pub struct Parts {
     pub generator: [u32; 18],
     pub start: u64,
+    pub drawn: u64,
     pub key: [u64; 4],
     pub tag: [u64; 2],
     pub waiting: [u8; 16],
@@ -19,12 +20,13 @@ pub struct Parts {
     pub width: usize,
 }
 
-const START: usize = 9;
-const KEY: usize = 10;
-const TAG: usize = 14;
-const WAITING: usize = 16;
-const COUNT: usize = 18;
-const WIDTH: usize = 19;
+pub const START: usize = 9;
+pub const DRAWN: usize = 10;
+const KEY: usize = 11;
+const TAG: usize = 15;
+const WAITING: usize = 17;
+const COUNT: usize = 19;
+const WIDTH: usize = 20;
 
 pub fn pack(parts: &Parts) -> TagState {
     let mut array = [0; TAG_WORDS];
@@ -32,6 +34,7 @@ pub fn pack(parts: &Parts) -> TagState {
         *number = u64::from(pair[0]) << 32 | u64::from(pair[1]);
     }
     array[START] = parts.start;
+    array[DRAWN] = parts.drawn;
     array[KEY..TAG].copy_from_slice(&parts.key);
     array[TAG..WAITING].copy_from_slice(&parts.tag);
     for (number, bytes) in array[WAITING..].iter_mut().zip(parts.waiting.chunks(8)) {
@@ -55,6 +58,7 @@ pub fn unpack(array: &TagState) -> Parts {
     Parts {
         generator,
         start: array[START],
+        drawn: array[DRAWN],
         key: array[KEY..TAG].try_into().expect("four words"),
         tag: array[TAG..WAITING].try_into().expect("two words"),
         waiting,
@@ -75,6 +79,7 @@ mod tests {
             let parts = Parts {
                 generator: [0; 18].map(|_: u32| rng.number() as u32),
                 start: rng.number(),
+                drawn: rng.number(),
                 key: [0; 4].map(|_: u64| rng.number()),
                 tag: [0; 2].map(|_: u64| rng.number()),
                 waiting: rng.bytes(16).try_into().expect("sixteen bytes"),

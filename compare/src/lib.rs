@@ -6,16 +6,19 @@
 //! tried; [`shrink`] makes a failing one small.
 //!
 //! The cells of the port's states stay put: [`ring`] models that, [`turn`] has one state
-//! in all its turns, and [`turns`] says which are tried.
+//! in all its turns, and [`turns`] says which are tried. They count the words drawn, up to a
+//! limit: [`limits`] says which are tried about it, and [`spent`] reaches it.
 //!
 //! The guard is not the crate's: a [`walk::Walk`] is a list of calls on one table, held
 //! to a model of sets; [`walks`] says which are tried.
 
 pub mod check;
 pub mod clock;
+pub mod drawn;
 pub mod hex;
 pub mod input;
 pub mod layout;
+pub mod limits;
 pub mod model;
 pub mod original;
 pub mod plan;
@@ -28,6 +31,7 @@ pub mod ring;
 pub mod rng;
 pub mod rules;
 pub mod shrink;
+pub mod spent;
 pub mod turn;
 pub mod turns;
 pub mod users;

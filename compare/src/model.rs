@@ -1,6 +1,7 @@
 //! Clean mode and tags written from the documents, bit by bit: independent of the port
 //! and, but for the words that it draws, of the crate. It is slow.
 
+use crate::drawn::Words;
 use crate::input::Tagger;
 use crate::layout::Parts;
 use crate::ring::Ring;
@@ -52,10 +53,7 @@ pub struct Tag {
 impl Tag {
     /// A tag whose generator has drawn nothing yet.
     pub fn start(tagger: Tagger, mut generator: Ring) -> Self {
-        let (extra_word, width) = match tagger {
-            Tagger::Zuc128 | Tagger::Eia3 => (true, 4),
-            Tagger::Zuc256 { width } => (false, width),
-        };
+        let (extra_word, width) = tagger.kind();
         let tag = if extra_word { 0 } else { window(&generator.words(width / 4), 0, 8 * width) };
         let key = generator.words(width / 2);
         Self { extra_word, width, generator, key, tag, waiting: Vec::new() }
@@ -70,7 +68,7 @@ impl Tag {
         let tag = Self {
             extra_word,
             width: parts.width,
-            generator: Ring::held(&parts.generator, parts.start)?,
+            generator: Ring::held(&parts.generator, parts.start, parts.drawn)?,
             key: key_words(parts),
             tag: match parts.width {
                 16 => u128::from(parts.tag[0]) << 64 | u128::from(parts.tag[1]),
@@ -87,6 +85,7 @@ impl Tag {
         let mut parts = Parts {
             generator: self.generator.numbers(),
             start: self.generator.start() as u64,
+            drawn: self.generator.count() as u64,
             key: [0; 4],
             tag: match self.width {
                 4 => [(self.tag as u32).into(), 0],
@@ -114,6 +113,16 @@ impl Tag {
             after.push(generator);
         }
         (words, after)
+    }
+
+    /// Set to have drawn so many words.
+    pub fn counted(self, count: usize) -> Self {
+        Self { generator: self.generator.counted(count), ..self }
+    }
+
+    /// The words that it has drawn, and would.
+    pub fn words(&self) -> Words {
+        Words::of(self.extra_word, self.width, self.waiting.len(), self.generator.count())
     }
 
     pub fn update(&mut self, message: &[u8]) {

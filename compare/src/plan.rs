@@ -4,6 +4,7 @@ use yegetmur::capi::{STATE_WORDS, TAG_WORDS};
 
 use crate::input::{lengths, Call, Input, Mode, Start, Tagger};
 use crate::layout::{pack, Parts};
+use crate::limits;
 use crate::model::Tag;
 use crate::original::{start_state, tag_start_state};
 use crate::ring::Ring;
@@ -20,10 +21,10 @@ pub const TAGGERS: [Tagger; 5] = [
     Tagger::Zuc256 { width: 16 },
 ];
 
-const MODES: [Mode; 2] = [Mode::Crate, Mode::Clean];
+pub const MODES: [Mode; 2] = [Mode::Crate, Mode::Clean];
 
 /// Bit lengths that no buffer tried here has, some of them a product that overflows.
-const HUGE_BITS: [usize; 9] = [
+pub const HUGE_BITS: [usize; 9] = [
     1 << 32,
     (1 << 32) + 8,
     1 << 61,
@@ -42,7 +43,7 @@ pub type Try<'a> = &'a mut dyn FnMut(Input);
 pub type Inputs = fn(&mut Rng, Try);
 
 /// The sections of the quick run, each with the inputs that it tries.
-pub const SECTIONS: [(&str, Inputs); 18] = [
+pub const SECTIONS: [(&str, Inputs); 23] = [
     ("words: keys and IVs of structure", structured),
     ("words: 0 to 70 at a time", word_counts),
     ("EEA3, EIA3: every bearer with every direction", bearers_and_directions),
@@ -59,6 +60,11 @@ pub const SECTIONS: [(&str, Inputs); 18] = [
     ("16 turns: edges of cells and lengths", turns::edges),
     ("16 turns: random, to 16 KiB", turns::random_turns),
     ("start indices to 15 and above, cells spoilt", turns::indices),
+    ("limit: from a start, 0 to 9 words left", limits::after_starts),
+    ("limit: generator states, 0 to 65 words left", limits::states),
+    ("limit: tag states, 0 to 9 words left", limits::tags),
+    ("limit: 16 turns, and random words left", limits::random_lefts),
+    ("counts above the limit, cells spoilt", limits::counts_above),
     ("random, to 2 KiB", random_short),
     ("random, to 1 MiB", random_long),
 ];
@@ -293,14 +299,19 @@ fn lent_states(rng: &mut Rng, attempt: Try) {
     }
     for number in [0, 1, 0x7fff_ffff, 0x8000_0000, 0xffff_ffff] {
         attempt(lent(rng, Call::LentState, vec![number; STATE_WORDS]));
+        for index in 0..16 {
+            let mut array = vec![number; STATE_WORDS];
+            array[18..].copy_from_slice(&[index, limits::count(rng)]);
+            attempt(lent(rng, Call::LentState, array));
+        }
     }
     for _ in 0..5000 {
         let mut array = [0; STATE_WORDS].map(|_: u64| rng.pick(&EDGE_CELLS).into());
-        array[18] = rng.below(17) as u64;
+        array[18..].copy_from_slice(&[rng.below(17) as u64, limits::count(rng)]);
         attempt(lent(rng, Call::LentState, array.to_vec()));
         let mut array = [0; STATE_WORDS].map(|_: u64| 1 + rng.number() % 0x7fff_ffff);
         array[16..18].fill_with(|| rng.number() >> 32);
-        array[18] = rng.below(17) as u64;
+        array[18..].copy_from_slice(&[rng.below(17) as u64, limits::count(rng)]);
         attempt(lent(rng, Call::LentState, array.to_vec()));
     }
 }
@@ -347,6 +358,7 @@ pub fn random_parts(rng: &mut Rng) -> Parts {
     let mut parts = Parts {
         generator: [0; 18].map(|_: u32| rng.pick(&EDGE_CELLS)),
         start: rng.below(16) as u64,
+        drawn: limits::count(rng),
         key: [0; 4].map(|_: u64| rng.number()),
         tag: [0; 2].map(|_: u64| rng.number()),
         waiting: [0; 16],

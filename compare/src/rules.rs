@@ -1,4 +1,5 @@
-//! The refusals of document 01, for what the crate's types leave no room to ask.
+//! The refusals of document 01 and of request 2026-09, for what the crate's types leave
+//! no room to ask.
 
 use crate::input::{lengths, Call, Input, Tagger};
 
@@ -7,6 +8,10 @@ pub const BAD_KEY: u32 = 2;
 pub const BAD_IV: u32 = 3;
 pub const BAD_STATE: u32 = 4;
 pub const BAD_BITS: u32 = 5;
+pub const SPENT: u32 = 16;
+
+/// How many words can be drawn from one start.
+pub const LIMIT: usize = 134_217_730;
 
 /// The number by which a start with this input is refused, 0 if it is not.
 pub fn start_refusal(input: &Input) -> u32 {
@@ -27,6 +32,22 @@ pub fn bits_refusal(bits: usize, bytes: usize) -> u32 {
     } else {
         0
     }
+}
+
+/// The number by which a call that would draw so many words is refused, once `count` are
+/// drawn; 0 if it is not.
+pub fn limit_refusal(count: usize, words: usize) -> u32 {
+    let left = LIMIT.checked_sub(count).expect("no count above the limit");
+    if words > left {
+        SPENT
+    } else {
+        0
+    }
+}
+
+/// The words that a mask of so many bytes draws.
+pub fn mask_words(bytes: usize) -> usize {
+    bytes / 4 + 1
 }
 
 /// The first of two refusals.

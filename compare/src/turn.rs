@@ -14,10 +14,10 @@ type Answers = Vec<u64>;
 
 /// A generator's state, through every call that it can be lent to.
 pub fn state_turns(input: &Input) -> Verdict {
-    let meaning = Ring::of_array(&input.state()).expect("a well-formed state").meaning();
+    let lent = Ring::of_array(&input.state()).expect("a well-formed state");
     let mut first = None;
     for start in 0..16 {
-        let ring = Ring::turned(&meaning, start);
+        let ring = Ring::turned(&lent.meaning(), start).counted(lent.count());
         held(&ring, input)?;
         let answers = answers(&ring.array(), input)?;
         let first = first.get_or_insert_with(|| answers.clone());
@@ -29,7 +29,7 @@ pub fn state_turns(input: &Input) -> Verdict {
 /// A tag's state, the same.
 pub fn tag_turns(input: &Input) -> Verdict {
     let parts = unpack(&input.tag_state());
-    let held = Ring::held(&parts.generator, parts.start);
+    let held = Ring::held(&parts.generator, parts.start, parts.drawn);
     let meaning = held.expect("a well-formed generator").meaning();
     let mut first = None;
     for start in 0..16 {
@@ -55,10 +55,12 @@ fn drawn(state: &State, words: usize) -> Result<(State, Vec<u32>), String> {
 
 fn answers(state: &State, input: &Input) -> Result<Answers, String> {
     let (mut lent, mut out) = (*state, vec![0; input.words]);
-    let mut answers = vec![capi::zuc_words(&mut lent, &mut out).into()];
+    let refusal = capi::zuc_words(&mut lent, &mut out);
+    let mut answers = vec![refusal.into()];
     answers.extend(out.iter().map(|&word| u64::from(word)));
-    let (after, words) = drawn(state, input.words)?;
-    same_list("words by zuc_draw and by zuc_words", &words, &out)?;
+    let n = if refusal == 0 { input.words } else { 0 };
+    let (after, words) = drawn(state, n)?;
+    same_list("words by zuc_draw and by zuc_words", &words, &out[..n])?;
     same_list("state after zuc_words and after single draws", &after, &lent)?;
 
     for mode in [Mode::Crate, Mode::Clean] {
@@ -97,6 +99,6 @@ fn tag_answers(array: &TagState, input: &Input) -> Result<Answers, String> {
 
 /// The generator of a well-formed tag state as an array of its own.
 fn generator(parts: &Parts) -> State {
-    let ring = Ring::held(&parts.generator, parts.start);
+    let ring = Ring::held(&parts.generator, parts.start, parts.drawn);
     ring.expect("a well-formed generator").array()
 }

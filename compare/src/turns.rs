@@ -3,7 +3,8 @@
 use yegetmur::capi::{State, STATE_WORDS};
 
 use crate::input::{Call, Input, Tagger};
-use crate::layout::pack;
+use crate::layout::{pack, START};
+use crate::limits;
 use crate::model::Tag;
 use crate::original::{start_state, tag_start_state};
 use crate::plan::{edge_lengths, keyed, over, random_parts, Try, EDGE_CELLS, STARTS, TAGGERS};
@@ -28,34 +29,34 @@ const ABOVE: [u64; 13] = [
 ];
 
 /// Numbers that no cell may be.
-const NO_CELLS: [u64; 3] = [0, 0x8000_0000, 0xffff_ffff];
+pub const NO_CELLS: [u64; 3] = [0, 0x8000_0000, 0xffff_ffff];
 
 /// The array after a start.
-fn started(rng: &mut Rng) -> State {
+pub fn started(rng: &mut Rng) -> State {
     let start = rng.pick(&STARTS);
     let input = keyed(rng, Call::Words(start));
     Ring::turned(&start_state(start, &input), 0).array()
 }
 
 /// The array of a tag that has taken so many bytes.
-fn tag_started(rng: &mut Rng, tagger: Tagger, taken: usize) -> Vec<u64> {
+pub fn tag_started(rng: &mut Rng, tagger: Tagger, taken: usize) -> Vec<u64> {
     let input = keyed(rng, Call::Tag(tagger));
     let mut tag = Tag::start(tagger, Ring::turned(&tag_start_state(tagger, &input), 0));
     tag.update(&rng.bytes(taken));
     pack(&tag.parts()).to_vec()
 }
 
-fn wide(array: &[u32]) -> Vec<u64> {
+pub fn wide(array: &[u32]) -> Vec<u64> {
     array.iter().map(|&number| number.into()).collect()
 }
 
 /// A state in its turns, with data.
-fn turns(rng: &mut Rng, array: &[u32], length: usize, bits: usize, words: usize) -> Input {
+pub fn turns(rng: &mut Rng, array: &[u32], length: usize, bits: usize, words: usize) -> Input {
     let input = over(rng, Call::StateTurns, length, bits);
     Input { array: wide(array), words, ..input }
 }
 
-fn tag_turns(rng: &mut Rng, array: Vec<u64>, length: usize, bits: usize) -> Input {
+pub fn tag_turns(rng: &mut Rng, array: Vec<u64>, length: usize, bits: usize) -> Input {
     Input { array, ..over(rng, Call::TagTurns, length, bits) }
 }
 
@@ -98,7 +99,7 @@ pub fn edges(rng: &mut Rng, attempt: Try) {
     }
     for _ in 0..2000 {
         let mut array = [0; STATE_WORDS].map(|_: u32| rng.pick(&EDGE_CELLS));
-        array[18] = rng.below(16) as u32;
+        array[18..].copy_from_slice(&[rng.below(16) as u32, limits::count(rng) as u32]);
         attempt(turns(rng, &array, 5, 39, 40));
         let length = rng.below(20);
         let parts = random_parts(rng);
@@ -121,7 +122,7 @@ pub fn indices(rng: &mut Rng, attempt: Try) {
         for tagger in TAGGERS {
             for place in 0..=16 {
                 let mut array = tag_started(rng, tagger, place);
-                array[9] = index;
+                array[START] = index;
                 if place < 16 {
                     spoil_half(&mut array[place / 2], place % 2, rng.pick(&NO_CELLS));
                 }
@@ -132,7 +133,7 @@ pub fn indices(rng: &mut Rng, attempt: Try) {
 }
 
 /// Puts a number in the place of one half of a word, the high one first.
-fn spoil_half(word: &mut u64, half: usize, number: u64) {
+pub fn spoil_half(word: &mut u64, half: usize, number: u64) {
     let low = 32 - 32 * half;
     *word = *word & !(0xffff_ffff << low) | number << low;
 }

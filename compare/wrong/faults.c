@@ -7,9 +7,13 @@
 
 #include <string.h>
 
-/* Where the start index stands. */
+/* Where the start index and the count stand. */
 #define INDEX 18
+#define COUNT 19
 #define TAG_INDEX 9
+#define TAG_COUNT 10
+
+#define LIMIT ((uint32_t)ZUC_WORDS_PER_START)
 
 #define RIGHT(name) extern __typeof__(name) right_##name
 RIGHT(zuc128_start);
@@ -24,6 +28,7 @@ RIGHT(zuc256_tag_update);
 RIGHT(zuc128_tag_finish);
 RIGHT(zuc256_tag_finish);
 RIGHT(zuc128_tag);
+RIGHT(eia3_tag);
 RIGHT(zuc256_tag);
 RIGHT(zuc_guard_accept);
 RIGHT(zuc_guard_rekey);
@@ -38,7 +43,8 @@ static inline void turn(uint32_t state[ZUC_STATE_WORDS], uint32_t index)
     state[INDEX] = index;
 }
 
-#if FAULT == 1 || FAULT == 3 || FAULT == 17 || FAULT == 36 || FAULT == 38
+#if FAULT == 1 || FAULT == 3 || FAULT == 17 || FAULT == 36 || FAULT == 38 || FAULT == 45 || FAULT == 46 \
+    || FAULT == 52
 uint32_t zuc_mask_crate(uint32_t state[ZUC_STATE_WORDS],
                         uint8_t *buf, size_t len, size_t bits, size_t *count)
 {
@@ -69,11 +75,23 @@ uint32_t zuc_mask_crate(uint32_t state[ZUC_STATE_WORDS],
     /* fault 38: a refusal resets the index */
     if (FAULT == 38 && refusal != 0)
         state[INDEX] = 0;
+
+    /* fault 45: 16 is checked before 5 */
+    if (FAULT == 45 && refusal == ZUC_BAD_BITS && len / 4 + 1 > LIMIT - state[COUNT])
+        return ZUC_SPENT;
+
+    /* fault 46: a mask raises the count by n/4 in place of what it drew */
+    if (FAULT == 46 && refusal == 0)
+        state[COUNT] = before[COUNT] + (uint32_t)(len / 4);
+
+    /* fault 52: a spent mask resets the index */
+    if (FAULT == 52 && refusal == ZUC_SPENT)
+        state[INDEX] = 0;
     return refusal;
 }
 #endif
 
-#if FAULT == 2 || FAULT == 4 || FAULT == 37
+#if FAULT == 2 || FAULT == 4 || FAULT == 37 || FAULT == 47
 uint32_t zuc_mask_clean(uint32_t state[ZUC_STATE_WORDS],
                         uint8_t *buf, size_t len, size_t bits, size_t *count)
 {
@@ -82,6 +100,7 @@ uint32_t zuc_mask_clean(uint32_t state[ZUC_STATE_WORDS],
         return zuc_mask_crate(state, buf, len, bits, count);
 
     /* fault 4: the right buffer and state, a made-up count */
+    uint32_t drawn_before = state[COUNT];
     uint32_t refusal = right_zuc_mask_clean(state, buf, len, bits, count);
     if (FAULT == 4 && refusal == 0)
         *count = (len + 3) / 4;
@@ -89,6 +108,10 @@ uint32_t zuc_mask_clean(uint32_t state[ZUC_STATE_WORDS],
     /* fault 37: a mask leaves the right cells, but from index 0 */
     if (FAULT == 37 && refusal == 0)
         turn(state, 0);
+
+    /* fault 47: a mask does not raise the count */
+    if (FAULT == 47 && refusal == 0)
+        state[COUNT] = drawn_before;
     return refusal;
 }
 #endif
@@ -112,14 +135,33 @@ uint32_t zuc128_tag(const uint8_t *key, size_t key_len, const uint8_t *iv, size_
 }
 #endif
 
-#if FAULT == 6
-/* fault 6: the bit length is checked after an update has altered the state */
+#if FAULT == 58
+/* fault 58: a tag at once goes one bit past the limit */
+uint32_t eia3_tag(uint32_t count, uint8_t bearer, uint8_t direction, const uint8_t *key,
+                  size_t key_len, const uint8_t *msg, size_t len, size_t bits, uint64_t tag[2])
+{
+    uint32_t refusal = right_eia3_tag(count, bearer, direction, key, key_len, msg, len, bits, tag);
+    return refusal == ZUC_SPENT && bits == ((size_t)1 << 32) + 1 ? 0 : refusal;
+}
+#endif
+
+#if FAULT == 6 || FAULT == 60
 uint32_t zuc128_tag_finish(uint64_t state[ZUC_TAG_WORDS], const uint8_t *tail, size_t len,
                            size_t bits, uint64_t tag[2])
 {
     uint32_t refusal = right_zuc128_tag_finish(state, tail, len, bits, tag);
-    if (refusal == ZUC_BAD_BITS)
+
+    /* fault 6: the bit length is checked after an update has altered the state */
+    if (FAULT == 6 && refusal == ZUC_BAD_BITS)
         zuc128_tag_update(state, tail, len);
+
+    /* fault 60: a finish goes one word past the limit */
+    if (FAULT == 60 && refusal == ZUC_SPENT && state[TAG_COUNT] > 0) {
+        state[TAG_COUNT]--;
+        refusal = right_zuc128_tag_finish(state, tail, len, bits, tag);
+        if (refusal != 0)
+            state[TAG_COUNT]++;
+    }
     return refusal;
 }
 #endif
@@ -177,7 +219,7 @@ uint32_t zuc256_tag_start(uint64_t state[ZUC_TAG_WORDS], size_t width, const uin
 }
 #endif
 
-#if FAULT == 11 || FAULT == 14 || FAULT == 42
+#if FAULT == 11 || FAULT == 14 || FAULT == 42 || FAULT == 56
 uint32_t zuc256_tag_finish(uint64_t state[ZUC_TAG_WORDS], const uint8_t *tail, size_t len,
                            size_t bits, uint64_t tag[2])
 {
@@ -191,6 +233,16 @@ uint32_t zuc256_tag_finish(uint64_t state[ZUC_TAG_WORDS], const uint8_t *tail, s
         return right_zuc256_tag_finish(state, tail, len, bits, tag);
     }
 
+    /* fault 56: a finish at the limit is refused, even if it draws no fresh word */
+    if (FAULT == 56) {
+        uint64_t at = state[TAG_COUNT];
+        state[TAG_COUNT] = at == LIMIT ? LIMIT + 1 : at;
+        uint32_t refusal = right_zuc256_tag_finish(state, tail, len, bits, tag);
+        if (refusal != 0)
+            state[TAG_COUNT] = at;
+        return refusal == ZUC_BAD_STATE && at == LIMIT ? ZUC_SPENT : refusal;
+    }
+
     /* fault 14: a tag can be closed twice */
     uint64_t copy[ZUC_TAG_WORDS];
     memcpy(copy, state, sizeof copy);
@@ -198,12 +250,30 @@ uint32_t zuc256_tag_finish(uint64_t state[ZUC_TAG_WORDS], const uint8_t *tail, s
 }
 #endif
 
-#if FAULT == 12 || FAULT == 39
+#if FAULT == 12 || FAULT == 39 || FAULT == 43 || FAULT == 44 || FAULT == 51 || FAULT == 57
 uint32_t zuc_words(uint32_t state[ZUC_STATE_WORDS], uint32_t *out, size_t n)
 {
     uint32_t copy[ZUC_STATE_WORDS];
     memcpy(copy, state, sizeof copy);
+
+    /* fault 51: no words are refused at the limit */
+    if (FAULT == 51 && n == 0 && state[COUNT] == LIMIT)
+        return ZUC_SPENT;
+
+    /* fault 44: words stop one before the limit */
+    if (FAULT == 44 && n > 0 && state[COUNT] <= LIMIT && n == LIMIT - state[COUNT])
+        return ZUC_SPENT;
+
+    /* fault 57: words are counted modulo 2^27 */
+    if (FAULT == 57 && n >= 1 << 27)
+        return right_zuc_words(state, out, 0);
     uint32_t refusal = right_zuc_words(state, out, n);
+
+    /* fault 43: words go one past the limit */
+    if (FAULT == 43 && refusal == ZUC_SPENT && state[COUNT] > 0 && n == LIMIT - state[COUNT] + 1) {
+        state[COUNT]--;
+        refusal = right_zuc_words(state, out, n);
+    }
 
     /* fault 12: one word too many is written, if seven are asked for */
     if (FAULT == 12 && refusal == 0 && n == 7)
@@ -218,7 +288,7 @@ uint32_t zuc_words(uint32_t state[ZUC_STATE_WORDS], uint32_t *out, size_t n)
 }
 #endif
 
-#if FAULT == 13 || (FAULT >= 31 && FAULT <= 35)
+#if FAULT == 13 || (FAULT >= 31 && FAULT <= 35) || FAULT == 50 || FAULT == 53 || FAULT == 55
 uint32_t zuc_draw(uint32_t state[ZUC_STATE_WORDS], uint32_t *word)
 {
     uint32_t index = state[INDEX];
@@ -226,9 +296,23 @@ uint32_t zuc_draw(uint32_t state[ZUC_STATE_WORDS], uint32_t *word)
     /* fault 35: an index of 16 is accepted */
     if (FAULT == 35 && index == 16)
         state[INDEX] = 0;
+
+    /* fault 50: a draw at the limit is accepted, and the count stays */
+    if (FAULT == 50 && state[COUNT] == LIMIT)
+        state[COUNT]--;
+
+    /* fault 53: a count of limit + 1 is spent, and not malformed */
+    if (FAULT == 53 && state[COUNT] == LIMIT + 1) {
+        *word = 0;
+        return ZUC_SPENT;
+    }
     uint32_t refusal = right_zuc_draw(state, word);
     if (refusal != 0 || index > 15)
         return refusal;
+
+    /* fault 55: a draw does not raise the count */
+    if (FAULT == 55)
+        state[COUNT]--;
 
     /* fault 13: a cell of 0 in the place of 2^31 - 1 */
     if (FAULT == 13 && state[index] == 0x7fffffff)
@@ -253,7 +337,7 @@ uint32_t zuc_draw(uint32_t state[ZUC_STATE_WORDS], uint32_t *word)
 }
 #endif
 
-#if FAULT == 15 || FAULT == 40
+#if FAULT == 15 || FAULT == 40 || FAULT == 48 || FAULT == 49
 uint32_t zuc128_tag_update(uint64_t state[ZUC_TAG_WORDS], const uint8_t *msg, size_t len)
 {
     /* fault 15: an empty update looks at nothing */
@@ -261,19 +345,41 @@ uint32_t zuc128_tag_update(uint64_t state[ZUC_TAG_WORDS], const uint8_t *msg, si
         return 0;
 
     /* fault 40: an update leaves the index as it came */
-    uint64_t index = state[TAG_INDEX];
+    uint64_t index = state[TAG_INDEX], count = state[TAG_COUNT];
     uint32_t refusal = right_zuc128_tag_update(state, msg, len);
     if (FAULT == 40)
         state[TAG_INDEX] = index;
+
+    /* fault 48: an update takes the words that are left, and then refuses */
+    if (FAULT == 48 && refusal == ZUC_SPENT && count < LIMIT)
+        right_zuc128_tag_update(state, msg, 4);
+
+    /* fault 49: a tag state loses the count when it is packed */
+    if (FAULT == 49 && refusal == 0)
+        state[TAG_COUNT] = 0;
     return refusal;
 }
 #endif
 
-#if FAULT == 41
-/* fault 41: the index of a tag state is cut to 32 bits */
+#if FAULT == 41 || FAULT == 54 || FAULT == 59
 uint32_t zuc256_tag_update(uint64_t state[ZUC_TAG_WORDS], const uint8_t *msg, size_t len)
 {
-    state[TAG_INDEX] = (uint32_t)state[TAG_INDEX];
+    /* fault 41: the index of a tag state is cut to 32 bits */
+    if (FAULT == 41)
+        state[TAG_INDEX] = (uint32_t)state[TAG_INDEX];
+
+    /* fault 54: the count of a tag state is cut to 32 bits */
+    if (FAULT == 54)
+        state[TAG_COUNT] = (uint32_t)state[TAG_COUNT];
+
+    /* fault 59: an update stops one word before the limit */
+    if (FAULT == 59 && state[TAG_COUNT] < LIMIT) {
+        uint64_t copy[ZUC_TAG_WORDS];
+        memcpy(copy, state, sizeof copy);
+        copy[TAG_COUNT]++;
+        if (right_zuc256_tag_update(copy, msg, len) == ZUC_SPENT)
+            return ZUC_SPENT;
+    }
     return right_zuc256_tag_update(state, msg, len);
 }
 #endif

@@ -3,17 +3,7 @@
  * and what a draw writes, an index above 15 refused, and one state in all its
  * sixteen turns. Prints what differs; exits with 1 if anything does.
  */
-#include "check.h"
-#include "zuc.h"
-
-#include <string.h>
-
-/* Where the index stands. Of a tag state no caller needs this; these tests do. */
-#define INDEX 18
-#define TAG_INDEX 9
-#define TAG_WIDTH 19
-
-static const uint8_t bytes[40] = "forty bytes of a key, an IV, a message.";
+#include "states.h"
 
 /* The same cells from another index. */
 static void turn(uint32_t to[ZUC_STATE_WORDS], const uint32_t from[ZUC_STATE_WORDS],
@@ -25,16 +15,6 @@ static void turn(uint32_t to[ZUC_STATE_WORDS], const uint32_t from[ZUC_STATE_WOR
     for (j = 0; j < 16; j++)
         to[(index + j) % 16] = from[(from[INDEX] + j) % 16];
     to[INDEX] = index;
-}
-
-/* The generator of a tag state: two of its words stand in one, the first one high. */
-static void generator_of(uint32_t state[ZUC_STATE_WORDS], const uint64_t tag[ZUC_TAG_WORDS])
-{
-    size_t i;
-
-    for (i = 0; i < 18; i++)
-        state[i] = (uint32_t)(tag[i / 2] >> (i % 2 == 0 ? 32 : 0));
-    state[INDEX] = (uint32_t)tag[TAG_INDEX];
 }
 
 static void turn_tag(uint64_t to[ZUC_TAG_WORDS], const uint64_t from[ZUC_TAG_WORDS],
@@ -51,20 +31,7 @@ static void turn_tag(uint64_t to[ZUC_TAG_WORDS], const uint64_t from[ZUC_TAG_WOR
     to[TAG_INDEX] = index;
 }
 
-/* Whether `state` is what n single draws leave of `before`. */
-static int drawn(const uint32_t state[ZUC_STATE_WORDS], const uint32_t before[ZUC_STATE_WORDS],
-                 size_t n)
-{
-    uint32_t copy[ZUC_STATE_WORDS], word;
-
-    memcpy(copy, before, sizeof copy);
-    while (n-- > 0)
-        if (zuc_draw(copy, &word) != 0)
-            return 0;
-    return memcmp(copy, state, sizeof copy) == 0;
-}
-
-/* A start leaves 0; a draw writes the oldest cell, R1, R2 and the index, no more. */
+/* A start leaves 0; of the places a draw writes that of the oldest cell, no more. */
 static void single_draws(void)
 {
     uint32_t state[ZUC_STATE_WORDS], before[ZUC_STATE_WORDS], word, n, i;
@@ -107,45 +74,22 @@ static void many_draws(void)
         }
 }
 
-static uint32_t update(int wide, uint64_t *state, const uint8_t *msg, size_t len)
-{
-    return wide ? zuc256_tag_update(state, msg, len) : zuc128_tag_update(state, msg, len);
-}
-
-static uint32_t finish(int wide, uint64_t *state, size_t len, size_t bits, uint64_t *tag)
-{
-    return wide ? zuc256_tag_finish(state, bytes, len, bits, tag)
-                : zuc128_tag_finish(state, bytes, len, bits, tag);
-}
-
-/* A tag of ZUC-128 (0), or of ZUC-256 by its width; the words that its start draws. */
-static size_t tag_started(uint64_t state[ZUC_TAG_WORDS], size_t width)
-{
-    if (width == 0) {
-        CHECK(zuc128_tag_start(state, bytes, 16, bytes, 16) == 0);
-        return 2;
-    }
-    CHECK(zuc256_tag_start(state, width, bytes, 32, bytes, 23) == 0);
-    return width / 4 + width / 2;
-}
-
 /* An update draws a word for every four bytes of the blocks that it fills. */
 static void updates(size_t width)
 {
-    uint64_t start[ZUC_TAG_WORDS], state[ZUC_TAG_WORDS];
-    uint32_t before[ZUC_STATE_WORDS], after[ZUC_STATE_WORDS], i;
+    uint64_t start[ZUC_TAG_WORDS], before[ZUC_TAG_WORDS], state[ZUC_TAG_WORDS];
+    uint32_t i;
     size_t len, block, words = tag_started(start, width);
 
     block = (size_t)start[TAG_WIDTH];
     CHECK(start[TAG_INDEX] == words % 16);
     for (i = 0; i < 16; i++)
         for (len = 0; len <= 40; len++) {
-            turn_tag(state, start, i);
-            generator_of(before, state);
+            turn_tag(before, start, i);
+            memcpy(state, before, sizeof state);
             CHECK(update(width != 0, state, bytes, len) == 0);
-            generator_of(after, state);
             words = len / block * block / 4;
-            CHECK(state[TAG_INDEX] == (i + words) % 16 && drawn(after, before, words));
+            CHECK(state[TAG_INDEX] == (i + words) % 16 && tag_drawn(state, before, words));
         }
 }
 

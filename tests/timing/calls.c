@@ -5,7 +5,8 @@
  *
  * Secret are keys, messages and buffers, and of a lent state the places, R1, R2, the key
  * pair, the tag and the waiting bytes. Public are all lengths and widths, the count of the
- * waiting bytes, the start index, IV, COUNT, BEARER and DIRECTION, and all of a guard's.
+ * waiting bytes, the start index, the count of the words drawn, IV, COUNT, BEARER and
+ * DIRECTION, and all of a guard's.
  *
  * `accepted` lends states as starts give them. `refused` lends the same with one cell
  * spoilt, each in its turn, so that each call ends by refusal 4; and the cells alone are
@@ -88,7 +89,13 @@ static uint32_t cell(int place)
     return spoilt % 2 == 0 ? 0 : 0x80000000u | random_word();
 }
 
-/* A generator's state: the places and the registers are secret, the index is not. */
+/* A count that leaves words enough for any call here. */
+static uint32_t drawn(void)
+{
+    return random_word() % (ZUC_WORDS_PER_START - 1000);
+}
+
+/* A generator's state: the places and the registers are secret, index and count are not. */
 static uint32_t *lent(size_t index)
 {
     int i;
@@ -96,6 +103,7 @@ static uint32_t *lent(size_t index)
     for (i = 0; i < 18; i++)
         state[i] = i < 16 ? cell(i) : random_word();
     state[18] = (uint32_t)index;
+    state[19] = drawn();
     secret(state, 16 * sizeof *state);
     secret_too(&state[16], 2 * sizeof *state);
     return state;
@@ -119,22 +127,23 @@ static uint64_t *tag_lent(size_t width, size_t index, size_t waiting)
         tag_state[i / 2] = tag_state[i / 2] << 32 | cell((int)i);
     scatter(&tag_state[8], 64);
     tag_state[9] = index;
-    scatter(&tag_state[10], 16 * width);
-    scatter(&tag_state[14], 8 * width);
+    tag_state[10] = drawn();
+    scatter(&tag_state[11], 16 * width);
+    scatter(&tag_state[15], 8 * width);
     if (width == 4)
-        tag_state[14] >>= 32;
-    scatter(&tag_state[16], 8 * waiting);
-    tag_state[18] = waiting;
-    tag_state[19] = width;
+        tag_state[15] >>= 32;
+    scatter(&tag_state[17], 8 * waiting);
+    tag_state[19] = waiting;
+    tag_state[20] = width;
 
     secret(tag_state, 8 * sizeof *tag_state);
     secret_bytes(&tag_state[8], 8);
-    secret_bytes(&tag_state[10], 2 * width);
+    secret_bytes(&tag_state[11], 2 * width);
     if (width == 4)
-        secret_too(&tag_state[14], 4);
+        secret_too(&tag_state[15], 4);
     else
-        secret_bytes(&tag_state[14], width);
-    secret_bytes(&tag_state[16], waiting);
+        secret_bytes(&tag_state[15], width);
+    secret_bytes(&tag_state[17], waiting);
     return tag_state;
 }
 

@@ -23,6 +23,27 @@
 //! assert_eq!(capi::zuc_draw(&mut state, &mut word), Refusal::State.number());
 //! assert_eq!((state, word), ([0; STATE_WORDS], 0));
 //! ```
+//!
+//! A state counts the words drawn from it, a generator's at place 19, and a start is
+//! spent at [`WORDS_PER_START`]:
+//!
+//! ```
+//! use yegetmur::capi::{self, STATE_WORDS, WORDS_PER_START};
+//! use yegetmur::Refusal;
+//!
+//! let mut state = [0; STATE_WORDS];
+//! assert_eq!(capi::zuc128_start(&mut state, &[0; 16], &[0; 16]), 0);
+//! assert_eq!(capi::zuc_words(&mut state, &mut [0; 5]), 0);
+//! assert_eq!(state[19], 5);
+//!
+//! state[19] = WORDS_PER_START - 2; // as if so many were drawn
+//! let mut out = [7; 3];
+//! assert_eq!(capi::zuc_words(&mut state, &mut out), Refusal::Limit.number());
+//! assert_eq!((state[19], out), (WORDS_PER_START - 2, [7; 3]));
+//! assert_eq!(capi::zuc_words(&mut state, &mut out[..2]), 0);
+//! assert_eq!(capi::zuc_draw(&mut state, &mut 0), Refusal::Limit.number());
+//! assert_eq!(capi::zuc_words(&mut state, &mut []), 0); // draws none
+//! ```
 
 // SAFETY, of every call below: the library asks that a pointer with a length be
 // to that many elements and that what it writes to overlap nothing else that it
@@ -31,7 +52,7 @@
 
 use crate::ffi;
 
-pub use crate::ffi::{Link, State, TagState, STATE_WORDS, TAG_WORDS};
+pub use crate::ffi::{Link, State, TagState, STATE_WORDS, TAG_WORDS, WORDS_PER_START};
 
 /// Starts ZUC-128: 16 bytes of key, 16 of IV.
 /// [Refuses](crate::Refusal) by Key, Iv.
@@ -55,28 +76,28 @@ pub fn eea3_start(state: &mut State, count: u32, bearer: u8, direction: u8, key:
 }
 
 /// Draws the next word.
-/// [Refuses](crate::Refusal) by State.
+/// [Refuses](crate::Refusal) by State, Limit.
 pub fn zuc_draw(state: &mut State, word: &mut u32) -> u32 {
     // SAFETY: see the top.
     unsafe { ffi::zuc_draw(state, word) }
 }
 
 /// Fills `out` with the next words.
-/// [Refuses](crate::Refusal) by State.
+/// [Refuses](crate::Refusal) by State, Limit.
 pub fn zuc_words(state: &mut State, out: &mut [u32]) -> u32 {
     // SAFETY: see the top.
     unsafe { ffi::zuc_words(state, out.as_mut_ptr(), out.len()) }
 }
 
 /// Masks as the crate does, and counts the words drawn.
-/// [Refuses](crate::Refusal) by State, Bits.
+/// [Refuses](crate::Refusal) by State, Bits, Limit.
 pub fn zuc_mask_crate(state: &mut State, buf: &mut [u8], bits: usize, count: &mut usize) -> u32 {
     // SAFETY: see the top.
     unsafe { ffi::zuc_mask_crate(state, buf.as_mut_ptr(), buf.len(), bits, count) }
 }
 
 /// Masks and zeroes every bit past `bits`, and counts the words drawn.
-/// [Refuses](crate::Refusal) by State, Bits.
+/// [Refuses](crate::Refusal) by State, Bits, Limit.
 pub fn zuc_mask_clean(state: &mut State, buf: &mut [u8], bits: usize, count: &mut usize) -> u32 {
     // SAFETY: see the top.
     unsafe { ffi::zuc_mask_clean(state, buf.as_mut_ptr(), buf.len(), bits, count) }
@@ -110,21 +131,21 @@ pub fn zuc256_tag_start(state: &mut TagState, width: usize, key: &[u8], iv: &[u8
 }
 
 /// Takes the next bytes of a message into a ZUC-128 or EIA3 tag.
-/// [Refuses](crate::Refusal) by State.
+/// [Refuses](crate::Refusal) by State, Limit.
 pub fn zuc128_tag_update(state: &mut TagState, msg: &[u8]) -> u32 {
     // SAFETY: see the top.
     unsafe { ffi::zuc128_tag_update(state, msg.as_ptr(), msg.len()) }
 }
 
 /// Takes the next bytes of a message into a ZUC-256 tag.
-/// [Refuses](crate::Refusal) by State.
+/// [Refuses](crate::Refusal) by State, Limit.
 pub fn zuc256_tag_update(state: &mut TagState, msg: &[u8]) -> u32 {
     // SAFETY: see the top.
     unsafe { ffi::zuc256_tag_update(state, msg.as_ptr(), msg.len()) }
 }
 
 /// Takes the last `bits` bits and closes a ZUC-128 or EIA3 tag.
-/// [Refuses](crate::Refusal) by State, Bits.
+/// [Refuses](crate::Refusal) by State, Bits, Limit.
 pub fn zuc128_tag_finish(
     state: &mut TagState,
     tail: &[u8],
@@ -136,7 +157,7 @@ pub fn zuc128_tag_finish(
 }
 
 /// Takes the last `bits` bits and closes a ZUC-256 tag.
-/// [Refuses](crate::Refusal) by State, Bits.
+/// [Refuses](crate::Refusal) by State, Bits, Limit.
 pub fn zuc256_tag_finish(
     state: &mut TagState,
     tail: &[u8],
@@ -148,7 +169,7 @@ pub fn zuc256_tag_finish(
 }
 
 /// The ZUC-128 tag of the first `bits` bits of `msg`.
-/// [Refuses](crate::Refusal) by Key, Iv, Bits.
+/// [Refuses](crate::Refusal) by Key, Iv, Bits, Limit.
 pub fn zuc128_tag(key: &[u8], iv: &[u8], msg: &[u8], bits: usize, tag: &mut [u64; 2]) -> u32 {
     let (key_len, iv_len, len) = (key.len(), iv.len(), msg.len());
     let (key, iv, msg) = (key.as_ptr(), iv.as_ptr(), msg.as_ptr());
@@ -157,7 +178,7 @@ pub fn zuc128_tag(key: &[u8], iv: &[u8], msg: &[u8], bits: usize, tag: &mut [u64
 }
 
 /// The 128-EIA3 tag of the first `bits` bits of `msg`.
-/// [Refuses](crate::Refusal) by Key, Bits.
+/// [Refuses](crate::Refusal) by Key, Bits, Limit.
 pub fn eia3_tag(
     count: u32,
     bearer: u8,
@@ -174,7 +195,7 @@ pub fn eia3_tag(
 }
 
 /// The ZUC-256 tag, `width` bytes, of the first `bits` bits of `msg`.
-/// [Refuses](crate::Refusal) by Width, Key, Iv, Bits.
+/// [Refuses](crate::Refusal) by Width, Key, Iv, Bits, Limit.
 pub fn zuc256_tag(
     width: usize,
     key: &[u8],

@@ -26,8 +26,12 @@ impl Eea3Keystream {
     }
 
     /// Generates the next 32-bit word of the keystream.
+    ///
+    /// # Panics
+    /// If this start is spent: all [`WORDS_PER_START`](crate::WORDS_PER_START) words
+    /// are drawn from it.
     pub fn generate(&mut self) -> u32 {
-        self.0.draw()
+        or_panic(self.try_generate())
     }
 }
 
@@ -48,7 +52,8 @@ beside_the_crate!(Eea3Keystream);
 /// stays masked; [`eea3_xor_clean`] zeroes it.
 ///
 /// # Panics
-/// If `bitlen` is more than `8 * data.len()`.
+/// If `bitlen` is more than `8 * data.len()`, or if it would draw more than
+/// [`WORDS_PER_START`](crate::WORDS_PER_START) words: from 2^29 + 8 bytes on.
 pub fn eea3_xor_inplace(
     count: u32,
     bearer: u8,
@@ -66,7 +71,8 @@ pub fn eea3_xor_inplace(
 /// panics. Answers how many words were drawn.
 ///
 /// # Errors
-/// [`Refusal::Key`], [`Refusal::Bits`]; `data` is then as it came.
+/// [`Refusal::Key`], [`Refusal::Bits`], [`Refusal::Limit`]; `data` is then as it
+/// came.
 pub fn try_eea3_xor_inplace(
     count: u32,
     bearer: u8,
@@ -82,7 +88,8 @@ pub fn try_eea3_xor_inplace(
 /// them.
 ///
 /// # Panics
-/// If `bitlen` is more than `8 * data.len()`.
+/// If `bitlen` is more than `8 * data.len()`, or if it would draw more than
+/// [`WORDS_PER_START`](crate::WORDS_PER_START) words: from 2^29 + 8 bytes on.
 pub fn eea3_xor_clean(
     count: u32,
     bearer: u8,
@@ -100,7 +107,8 @@ pub fn eea3_xor_clean(
 /// Answers how many words were drawn.
 ///
 /// # Errors
-/// [`Refusal::Key`], [`Refusal::Bits`]; `data` is then as it came.
+/// [`Refusal::Key`], [`Refusal::Bits`], [`Refusal::Limit`]; `data` is then as it
+/// came.
 pub fn try_eea3_xor_clean(
     count: u32,
     bearer: u8,

@@ -24,7 +24,8 @@ impl Eia3Mac {
     /// | bitlen    | -        | bit length of the input message       |
     ///
     /// # Panics
-    /// If `bitlen` is more than `8 * msg.len()`.
+    /// If `bitlen` is more than `8 * msg.len()`, or if it would draw more than
+    /// [`WORDS_PER_START`](crate::WORDS_PER_START) words: above 2^32 bits.
     #[must_use]
     pub fn compute(
         count: u32,
@@ -41,7 +42,7 @@ impl Eia3Mac {
     /// that panics.
     ///
     /// # Errors
-    /// [`Refusal::Key`], [`Refusal::Bits`].
+    /// [`Refusal::Key`], [`Refusal::Bits`], [`Refusal::Limit`].
     pub fn try_compute(
         count: u32,
         bearer: u8,
@@ -71,7 +72,8 @@ impl Eia3Mac {
     /// Updates the MAC generator with the bytes of a message.
     ///
     /// # Panics
-    /// If [`try_finish`](Self::try_finish) has closed it.
+    /// If [`try_finish`](Self::try_finish) has closed it, or if it would draw more
+    /// words than are left of this start.
     pub fn update(&mut self, msg: &[u8]) {
         self.0.update(msg);
     }
@@ -79,7 +81,7 @@ impl Eia3Mac {
     /// As [`update`](Self::update), and refuses where that panics.
     ///
     /// # Errors
-    /// [`Refusal::State`].
+    /// [`Refusal::State`], [`Refusal::Limit`]; the generator is then as it was.
     pub fn try_update(&mut self, msg: &[u8]) -> Result<(), Refusal> {
         self.0.try_update(msg)
     }
@@ -87,8 +89,9 @@ impl Eia3Mac {
     /// Finishes the MAC generation and returns the MAC.
     ///
     /// # Panics
-    /// If `bitlen` is more than `8 * tail.len()`, or if
-    /// [`try_finish`](Self::try_finish) has closed it.
+    /// If `bitlen` is more than `8 * tail.len()`, if
+    /// [`try_finish`](Self::try_finish) has closed it, or if it would draw more
+    /// words than are left of this start.
     #[must_use]
     pub fn finish(self, tail: &[u8], bitlen: usize) -> u32 {
         self.0.finish(tail, bitlen)
@@ -98,8 +101,8 @@ impl Eia3Mac {
     /// answered a tag the generator is closed and refuses everything.
     ///
     /// # Errors
-    /// [`Refusal::State`], [`Refusal::Bits`]; the generator is then as it
-    /// was and can go on.
+    /// [`Refusal::State`], [`Refusal::Bits`], [`Refusal::Limit`]; the generator is
+    /// then as it was and can go on.
     pub fn try_finish(&mut self, tail: &[u8], bitlen: usize) -> Result<u32, Refusal> {
         self.0.try_finish(tail, bitlen)
     }

@@ -2,20 +2,28 @@
 //! links that they are lent. `capi` stands on this module and hands them on.
 
 /// Numbers in a generator's state: `ZUC_STATE_WORDS` of zuc.h.
-pub const STATE_WORDS: usize = 19;
+pub const STATE_WORDS: usize = 20;
 
 /// Numbers in a tag's state: `ZUC_TAG_WORDS` of zuc.h.
-pub const TAG_WORDS: usize = 20;
+pub const TAG_WORDS: usize = 21;
 
-/// A generator's state: sixteen places, then R1, R2, and a start index of 0..15.
+/// How many words can be drawn from one start: `ZUC_WORDS_PER_START` of zuc.h. It is
+/// what a 128-EIA3 tag of 2^32 bits draws.
+///
+/// A call that would draw more than are left is refused by
+/// [`Refusal::Limit`](crate::Refusal::Limit), before it alters anything.
+pub const WORDS_PER_START: u32 = 134_217_730;
+
+/// A generator's state: sixteen places, then R1, R2, a start index of 0..15, and how many
+/// words are drawn, 0..=[`WORDS_PER_START`].
 ///
 /// The cells stay put and are to be read from the index: cell j of the standard stands
-/// at place (index + j) mod 16. A start leaves index 0, and each word drawn raises it by
-/// one, from 15 back to 0. States that agree so read are one state: every call answers
-/// the same to them.
+/// at place (index + j) mod 16. A start leaves index 0 and count 0. Each word drawn raises
+/// the index by one, from 15 back to 0, and the count by one. States that agree so read
+/// are one state: every call answers the same to them.
 pub type State = [u32; STATE_WORDS];
 
-/// A tag's state.
+/// A tag's state. It counts its words, too.
 pub type TagState = [u64; TAG_WORDS];
 
 /// A link of a [`Guard`](crate::Guard)'s table: `struct zuc_link` of zuc.h.

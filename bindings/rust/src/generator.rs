@@ -1,7 +1,7 @@
 //! A generator and what all keystreams do with one.
 
 use crate::capi::{self, State, STATE_WORDS};
-use crate::refusal::{or_panic, Refusal};
+use crate::refusal::Refusal;
 
 /// A well-formed state: no other is ever made.
 #[derive(Clone)]
@@ -15,14 +15,14 @@ impl Generator {
         Ok(Self(state))
     }
 
-    pub fn draw(&mut self) -> u32 {
+    pub fn draw(&mut self) -> Result<u32, Refusal> {
         let mut word = 0;
-        or_panic(Refusal::check(capi::zuc_draw(&mut self.0, &mut word)));
-        word
+        Refusal::check(capi::zuc_draw(&mut self.0, &mut word))?;
+        Ok(word)
     }
 
-    pub fn words(&mut self, out: &mut [u32]) {
-        or_panic(Refusal::check(capi::zuc_words(&mut self.0, out)));
+    pub fn words(&mut self, out: &mut [u32]) -> Result<(), Refusal> {
+        Refusal::check(capi::zuc_words(&mut self.0, out))
     }
 
     pub fn mask_crate(&mut self, data: &mut [u8], bitlen: usize) -> Result<usize, Refusal> {
@@ -43,9 +43,29 @@ impl Generator {
 macro_rules! beside_the_crate {
     ($keystream:ident) => {
         impl $keystream {
+            /// As [`generate`](Self::generate), and refuses where that panics.
+            ///
+            /// # Errors
+            /// [`Refusal::Limit`](crate::Refusal::Limit): no word is left.
+            pub fn try_generate(&mut self) -> Result<u32, crate::Refusal> {
+                self.0.draw()
+            }
+
             /// Fills `out` with the next words of the keystream, in one call.
+            ///
+            /// # Panics
+            /// If fewer words are left of this start than `out` has room for.
             pub fn generate_into(&mut self, out: &mut [u32]) {
-                self.0.words(out);
+                crate::refusal::or_panic(self.try_generate_into(out));
+            }
+
+            /// As [`generate_into`](Self::generate_into), and refuses where that panics.
+            ///
+            /// # Errors
+            /// [`Refusal::Limit`](crate::Refusal::Limit); keystream and `out` are then as
+            /// they came, even if some of the words were left.
+            pub fn try_generate_into(&mut self, out: &mut [u32]) -> Result<(), crate::Refusal> {
+                self.0.words(out)
             }
 
             /// Masks `data` in place as the crate's `xor_inplace` does, and answers how
@@ -55,7 +75,8 @@ macro_rules! beside_the_crate {
             /// `bitlen / 8` stays masked; [`xor_clean`](Self::xor_clean) zeroes it.
             ///
             /// # Panics
-            /// If `bitlen` is more than `8 * data.len()`.
+            /// If `bitlen` is more than `8 * data.len()`, or if it would draw more words
+            /// than are left of this start.
             pub fn xor_inplace(&mut self, data: &mut [u8], bitlen: usize) -> usize {
                 crate::refusal::or_panic(self.try_xor_inplace(data, bitlen))
             }
@@ -64,7 +85,8 @@ macro_rules! beside_the_crate {
             /// them; answers how many words it drew, as [`xor_inplace`](Self::xor_inplace).
             ///
             /// # Panics
-            /// If `bitlen` is more than `8 * data.len()`.
+            /// If `bitlen` is more than `8 * data.len()`, or if it would draw more words
+            /// than are left of this start.
             pub fn xor_clean(&mut self, data: &mut [u8], bitlen: usize) -> usize {
                 crate::refusal::or_panic(self.try_xor_clean(data, bitlen))
             }
@@ -72,7 +94,8 @@ macro_rules! beside_the_crate {
             /// As [`xor_inplace`](Self::xor_inplace), and refuses where that panics.
             ///
             /// # Errors
-            /// [`Refusal::Bits`](crate::Refusal::Bits); keystream and `data` are then as
+            /// [`Refusal::Bits`](crate::Refusal::Bits),
+            /// [`Refusal::Limit`](crate::Refusal::Limit); keystream and `data` are then as
             /// they came.
             pub fn try_xor_inplace(
                 &mut self,
@@ -85,7 +108,8 @@ macro_rules! beside_the_crate {
             /// As [`xor_clean`](Self::xor_clean), and refuses where that panics.
             ///
             /// # Errors
-            /// [`Refusal::Bits`](crate::Refusal::Bits); keystream and `data` are then as
+            /// [`Refusal::Bits`](crate::Refusal::Bits),
+            /// [`Refusal::Limit`](crate::Refusal::Limit); keystream and `data` are then as
             /// they came.
             pub fn try_xor_clean(
                 &mut self,

@@ -13,6 +13,6 @@ mod guard;
 mod refusal;
 mod tag;
 
-pub use ffi::Link;
+pub use ffi::{Link, WORDS_PER_START};
 pub use guard::Guard;
 pub use refusal::Refusal;

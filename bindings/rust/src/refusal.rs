@@ -2,9 +2,11 @@
 
 use core::fmt;
 
+use crate::ffi::WORDS_PER_START;
+
 /// Why a call was refused. Where several reasons apply, the one that is checked
-/// first is given: of the first five the one with the lowest number, of the
-/// [`Guard`](crate::Guard)'s `Link`, `Age`, `Reuse` in this order.
+/// first is given: of the first five the one with the lowest number, after them
+/// `Limit`, of the [`Guard`](crate::Guard)'s `Link`, `Age`, `Reuse` in this order.
 #[derive(Clone, Copy, Debug, PartialEq, Eq, Hash)]
 pub enum Refusal {
     /// The tag width is not 4, 8 or 16 bytes.
@@ -17,6 +19,9 @@ pub enum Refusal {
     State = 4,
     /// The bit length is more than 8 times the bytes given.
     Bits = 5,
+    /// The call would draw more words than the start has left of its
+    /// [`WORDS_PER_START`](crate::WORDS_PER_START).
+    Limit = 16,
     /// There is no such link.
     Link = 13,
     /// The COUNT is more than 63 below the link's highest.
@@ -26,12 +31,13 @@ pub enum Refusal {
 }
 
 impl Refusal {
-    const ALL: [Self; 8] = [
+    const ALL: [Self; 9] = [
         Self::Width,
         Self::Key,
         Self::Iv,
         Self::State,
         Self::Bits,
+        Self::Limit,
         Self::Link,
         Self::Age,
         Self::Reuse,
@@ -73,6 +79,10 @@ impl fmt::Display for Refusal {
             Self::Iv => "the IV has the wrong length",
             Self::State => "the state is malformed or the tag is closed",
             Self::Bits => "the bit length is more than 8 times the bytes given",
+            Self::Limit => {
+                let left = "words can be drawn from it, and this call asks for more than are left";
+                return write!(f, "the start is spent: {WORDS_PER_START} {left}");
+            }
             Self::Link => "there is no such link",
             Self::Age => "the COUNT is more than 63 below the highest",
             Self::Reuse => "the COUNT was already accepted",

@@ -25,8 +25,12 @@ impl Zuc128Keystream {
     }
 
     /// Generates the next 32-bit word of the keystream.
+    ///
+    /// # Panics
+    /// If this start is spent: all [`WORDS_PER_START`](crate::WORDS_PER_START) words
+    /// are drawn from it.
     pub fn generate(&mut self) -> u32 {
-        self.0.draw()
+        or_panic(self.try_generate())
     }
 }
 
@@ -45,7 +49,8 @@ beside_the_crate!(Zuc128Keystream);
 /// stays masked; [`zuc128_xor_clean`] zeroes it.
 ///
 /// # Panics
-/// If `bitlen` is more than `8 * data.len()`.
+/// If `bitlen` is more than `8 * data.len()`, or if it would draw more than
+/// [`WORDS_PER_START`](crate::WORDS_PER_START) words: from 2^29 + 8 bytes on.
 pub fn zuc128_xor_inplace(ck: &[u8; 16], iv: &[u8; 16], data: &mut [u8], bitlen: usize) {
     or_panic(try_zuc128_xor_inplace(ck, iv, data, bitlen));
 }
@@ -54,8 +59,8 @@ pub fn zuc128_xor_inplace(ck: &[u8; 16], iv: &[u8; 16], data: &mut [u8], bitlen:
 /// where that panics. Answers how many words were drawn.
 ///
 /// # Errors
-/// [`Refusal::Key`], [`Refusal::Iv`], [`Refusal::Bits`]; `data` is then as
-/// it came.
+/// [`Refusal::Key`], [`Refusal::Iv`], [`Refusal::Bits`], [`Refusal::Limit`];
+/// `data` is then as it came.
 pub fn try_zuc128_xor_inplace(
     ck: &[u8],
     iv: &[u8],
@@ -69,7 +74,8 @@ pub fn try_zuc128_xor_inplace(
 /// them.
 ///
 /// # Panics
-/// If `bitlen` is more than `8 * data.len()`.
+/// If `bitlen` is more than `8 * data.len()`, or if it would draw more than
+/// [`WORDS_PER_START`](crate::WORDS_PER_START) words: from 2^29 + 8 bytes on.
 pub fn zuc128_xor_clean(ck: &[u8; 16], iv: &[u8; 16], data: &mut [u8], bitlen: usize) {
     or_panic(try_zuc128_xor_clean(ck, iv, data, bitlen));
 }
@@ -78,8 +84,8 @@ pub fn zuc128_xor_clean(ck: &[u8; 16], iv: &[u8; 16], data: &mut [u8], bitlen: u
 /// that panics. Answers how many words were drawn.
 ///
 /// # Errors
-/// [`Refusal::Key`], [`Refusal::Iv`], [`Refusal::Bits`]; `data` is then as
-/// it came.
+/// [`Refusal::Key`], [`Refusal::Iv`], [`Refusal::Bits`], [`Refusal::Limit`];
+/// `data` is then as it came.
 pub fn try_zuc128_xor_clean(
     ck: &[u8],
     iv: &[u8],
@@ -103,7 +109,8 @@ impl Zuc128Mac {
     /// | bitlen | -        | bit length of the input message |
     ///
     /// # Panics
-    /// If `bitlen` is more than `8 * msg.len()`.
+    /// If `bitlen` is more than `8 * msg.len()`, or if it would draw more than
+    /// [`WORDS_PER_START`](crate::WORDS_PER_START) words: above 2^32 bits.
     #[must_use]
     pub fn compute(ik: &[u8; 16], iv: &[u8; 16], msg: &[u8], bitlen: usize) -> u32 {
         or_panic(Self::try_compute(ik, iv, msg, bitlen))
@@ -113,7 +120,7 @@ impl Zuc128Mac {
     /// refuses where that panics.
     ///
     /// # Errors
-    /// [`Refusal::Key`], [`Refusal::Iv`], [`Refusal::Bits`].
+    /// [`Refusal::Key`], [`Refusal::Iv`], [`Refusal::Bits`], [`Refusal::Limit`].
     pub fn try_compute(ik: &[u8], iv: &[u8], msg: &[u8], bitlen: usize) -> Result<u32, Refusal> {
         answered(|tag| capi::zuc128_tag(ik, iv, msg, bitlen, tag))
     }
@@ -135,7 +142,8 @@ impl Zuc128Mac {
     /// Updates the MAC generator with the bytes of a message.
     ///
     /// # Panics
-    /// If [`try_finish`](Self::try_finish) has closed it.
+    /// If [`try_finish`](Self::try_finish) has closed it, or if it would draw more
+    /// words than are left of this start.
     pub fn update(&mut self, msg: &[u8]) {
         or_panic(self.try_update(msg));
     }
@@ -143,7 +151,7 @@ impl Zuc128Mac {
     /// As [`update`](Self::update), and refuses where that panics.
     ///
     /// # Errors
-    /// [`Refusal::State`].
+    /// [`Refusal::State`], [`Refusal::Limit`]; the generator is then as it was.
     pub fn try_update(&mut self, msg: &[u8]) -> Result<(), Refusal> {
         Refusal::check(capi::zuc128_tag_update(&mut self.0, msg))
     }
@@ -151,8 +159,9 @@ impl Zuc128Mac {
     /// Finishes the MAC generation and returns the MAC.
     ///
     /// # Panics
-    /// If `bitlen` is more than `8 * tail.len()`, or if
-    /// [`try_finish`](Self::try_finish) has closed it.
+    /// If `bitlen` is more than `8 * tail.len()`, if
+    /// [`try_finish`](Self::try_finish) has closed it, or if it would draw more
+    /// words than are left of this start.
     #[must_use]
     pub fn finish(mut self, tail: &[u8], bitlen: usize) -> u32 {
         or_panic(self.try_finish(tail, bitlen))
@@ -162,8 +171,8 @@ impl Zuc128Mac {
     /// answered a tag the generator is closed and refuses everything.
     ///
     /// # Errors
-    /// [`Refusal::State`], [`Refusal::Bits`]; the generator is then as it
-    /// was and can go on.
+    /// [`Refusal::State`], [`Refusal::Bits`], [`Refusal::Limit`]; the generator is
+    /// then as it was and can go on.
     pub fn try_finish(&mut self, tail: &[u8], bitlen: usize) -> Result<u32, Refusal> {
         answered(|tag| capi::zuc128_tag_finish(&mut self.0, tail, bitlen, tag))
     }

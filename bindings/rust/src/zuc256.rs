@@ -28,9 +28,13 @@ impl Zuc256Keystream {
     }
 
     /// Generates the next 32-bit word of the keystream.
+    ///
+    /// # Panics
+    /// If this start is spent: all [`WORDS_PER_START`](crate::WORDS_PER_START) words
+    /// are drawn from it.
     #[must_use]
     pub fn generate(&mut self) -> u32 {
-        self.0.draw()
+        or_panic(self.try_generate())
     }
 }
 
@@ -64,7 +68,9 @@ impl<T: MacTag> Zuc256Mac<T> {
     /// | bitlen | -        | bit length of the input message |
     ///
     /// # Panics
-    /// If `bitlen` is more than `8 * msg.len()`.
+    /// If `bitlen` is more than `8 * msg.len()`, or if it would draw more than
+    /// [`WORDS_PER_START`](crate::WORDS_PER_START) words: from 2^32 bits on for a tag
+    /// of 32 bits, from 2^32 - 64 for 64 and from 2^32 - 256 for 128.
     #[must_use]
     pub fn compute(ik: &[u8; 32], iv: &[u8; 23], msg: &[u8], bitlen: usize) -> T {
         or_panic(Self::try_compute(ik, iv, msg, bitlen))
@@ -74,7 +80,7 @@ impl<T: MacTag> Zuc256Mac<T> {
     /// refuses where that panics.
     ///
     /// # Errors
-    /// [`Refusal::Key`], [`Refusal::Iv`], [`Refusal::Bits`].
+    /// [`Refusal::Key`], [`Refusal::Iv`], [`Refusal::Bits`], [`Refusal::Limit`].
     pub fn try_compute(ik: &[u8], iv: &[u8], msg: &[u8], bitlen: usize) -> Result<T, Refusal> {
         answered(|tag| capi::zuc256_tag(Self::WIDTH, ik, iv, msg, bitlen, tag))
     }
@@ -100,7 +106,8 @@ impl<T: MacTag> Zuc256Mac<T> {
     /// Updates the MAC generator with the bytes of a message.
     ///
     /// # Panics
-    /// If [`try_finish`](Self::try_finish) has closed it.
+    /// If [`try_finish`](Self::try_finish) has closed it, or if it would draw more
+    /// words than are left of this start.
     pub fn update(&mut self, msg: &[u8]) {
         or_panic(self.try_update(msg));
     }
@@ -108,7 +115,7 @@ impl<T: MacTag> Zuc256Mac<T> {
     /// As [`update`](Self::update), and refuses where that panics.
     ///
     /// # Errors
-    /// [`Refusal::State`].
+    /// [`Refusal::State`], [`Refusal::Limit`]; the generator is then as it was.
     pub fn try_update(&mut self, msg: &[u8]) -> Result<(), Refusal> {
         Refusal::check(capi::zuc256_tag_update(&mut self.state, msg))
     }
@@ -116,8 +123,9 @@ impl<T: MacTag> Zuc256Mac<T> {
     /// Finishes the MAC generation and returns the MAC.
     ///
     /// # Panics
-    /// If `bitlen` is more than `8 * tail.len()`, or if
-    /// [`try_finish`](Self::try_finish) has closed it.
+    /// If `bitlen` is more than `8 * tail.len()`, if
+    /// [`try_finish`](Self::try_finish) has closed it, or if it would draw more
+    /// words than are left of this start.
     #[allow(clippy::must_use_candidate)] // as the crate's
     pub fn finish(mut self, tail: &[u8], bitlen: usize) -> T {
         or_panic(self.try_finish(tail, bitlen))
@@ -127,8 +135,8 @@ impl<T: MacTag> Zuc256Mac<T> {
     /// answered a tag the generator is closed and refuses everything.
     ///
     /// # Errors
-    /// [`Refusal::State`], [`Refusal::Bits`]; the generator is then as it
-    /// was and can go on.
+    /// [`Refusal::State`], [`Refusal::Bits`], [`Refusal::Limit`]; the generator is
+    /// then as it was and can go on.
     pub fn try_finish(&mut self, tail: &[u8], bitlen: usize) -> Result<T, Refusal> {
         answered(|tag| capi::zuc256_tag_finish(&mut self.state, tail, bitlen, tag))
     }

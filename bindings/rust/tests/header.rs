@@ -1,6 +1,6 @@
 //! The package and the header name the same functions and the same sizes.
 
-use yegetmur::capi::{STATE_WORDS, TAG_WORDS};
+use yegetmur::capi::{STATE_WORDS, TAG_WORDS, WORDS_PER_START};
 use yegetmur::Refusal;
 
 const HEADER: &str = include_str!("../../../include/zuc.h");
@@ -38,11 +38,13 @@ fn functions_agree() {
 fn numbers_agree() {
     assert_eq!(defined("ZUC_STATE_WORDS") as usize, STATE_WORDS);
     assert_eq!(defined("ZUC_TAG_WORDS") as usize, TAG_WORDS);
+    assert_eq!(defined("ZUC_WORDS_PER_START"), WORDS_PER_START);
     assert_eq!(defined("ZUC_BAD_WIDTH"), Refusal::Width.number());
     assert_eq!(defined("ZUC_BAD_KEY"), Refusal::Key.number());
     assert_eq!(defined("ZUC_BAD_IV"), Refusal::Iv.number());
     assert_eq!(defined("ZUC_BAD_STATE"), Refusal::State.number());
     assert_eq!(defined("ZUC_BAD_BITS"), Refusal::Bits.number());
+    assert_eq!(defined("ZUC_SPENT"), Refusal::Limit.number());
     assert_eq!(defined("ZUC_BAD_LINK"), Refusal::Link.number());
     assert_eq!(defined("ZUC_BAD_AGE"), Refusal::Age.number());
     assert_eq!(defined("ZUC_BAD_REUSE"), Refusal::Reuse.number());

@@ -11,6 +11,7 @@ use compare::input::Input;
 use compare::plan::{self, SECTIONS};
 use compare::report::Report;
 use compare::rng::Rng;
+use compare::spent::{self, Spent};
 use compare::turns;
 use compare::walk::Walk;
 use compare::walks::{self, WALKS};
@@ -29,6 +30,10 @@ fn main() {
     // the guard first: it is quick
     let guarded = guard(&mut Rng::new(options.seed), &options);
     if options.stop && !guarded {
+        exit(1);
+    }
+    let limited = limit(&mut Rng::new(options.seed), &options);
+    if options.stop && !limited {
         exit(1);
     }
     let mut rng = Rng::new(options.seed);
@@ -50,7 +55,7 @@ fn main() {
         }
     }
     let same = report.end(options.seed);
-    exit(i32::from(!(guarded && same)));
+    exit(i32::from(!(guarded && limited && same)));
 }
 
 /// The guard, by walks over tables of links; answers whether all was the same.
@@ -69,6 +74,18 @@ fn guard(rng: &mut Rng, options: &Options) -> bool {
         while report.elapsed() < end {
             report.try_input(walks::random(rng));
         }
+    }
+    report.end(options.seed)
+}
+
+/// The limit per start, from starts; answers whether all was the same.
+fn limit(rng: &mut Rng, options: &Options) -> bool {
+    let mut report = Report::<Spent>::new();
+    report.section("limit: from a start, too many words");
+    spent::refused(rng).into_iter().for_each(|trial| report.try_input(trial));
+    if !options.long.is_zero() {
+        report.section("limit: from a start, all 134217730 words");
+        spent::reached(rng).into_iter().for_each(|trial| report.try_input(trial));
     }
     report.end(options.seed)
 }
