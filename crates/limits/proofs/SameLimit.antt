@@ -25,9 +25,9 @@ use Rattle.mac_counts.proofs.InTurn.{all-EIA3, all-ZUC256}
 use Rattle.mac.specs.Calls.{Closing, Once, Outcome, begunTag-128, finishOutcome-128, finishOutcome-256, onceOutcome-128, onceOutcome-256, onceOutcome-EIA3, startOutcome-128, startOutcome-256, startOutcome-EIA3, updateOutcome, updateWords}
 use Rattle.mac.specs.Runs.{Accepts-128, Accepts-256, joined}
 use Rattle.mac.proofs.Accepted.{row-of}
-use Rattle.mac.proofs.Cuttings.{Kind, begins-zuc128, begins-zuc256, every-cutting-zuc128, every-cutting-zuc256, good-start, iv-bytes, kind-128, kind-256, update-ok}
+use Rattle.mac_laws.proofs.Cuttings.{Kind, begins-zuc128, begins-zuc256, every-cutting-zuc128, every-cutting-zuc256, good-start, iv-bytes, kind-128, kind-256, update-ok}
 use Rattle.mac.proofs.Outcomes.{begun-EIA3-is, once-EIA3-is}
-use Rattle.mac.proofs.Runs.{update-accepted}
+use Rattle.mac_laws.proofs.Runs.{update-accepted}
 use Rattle.limits.specs.Spent.{Spends, at-closing, at-update, later}
 use Rattle.limits.proofs.TwoUpdates.{formed-here, next-count, next-held, split, update-spent, words-here}
 

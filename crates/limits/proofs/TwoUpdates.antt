@@ -18,10 +18,10 @@ use Rattle.mac_registers.proofs.Cutting.{updated-append}
 use Rattle.mac_registers.proofs.Packed.{good-updated}
 use Rattle.mac.specs.Calls.{Closing, Outcome, updateOutcome, updateWords}
 use Rattle.mac.specs.Inner.{Within}
-use Rattle.mac.proofs.Counts.{words-in-turn}
-use Rattle.mac.proofs.Cuttings.{Kind, kind-128, kind-256, tag-formed, update-ok}
+use Rattle.mac_laws.proofs.Counts.{words-in-turn}
+use Rattle.mac_laws.proofs.Cuttings.{Kind, kind-128, kind-256, tag-formed, update-ok}
 use Rattle.mac.proofs.Outcomes.{formed-four}
-use Rattle.mac.proofs.Runs.{update-accepted, update-is}
+use Rattle.mac_laws.proofs.Runs.{update-accepted, update-is}
 
 -- within the limit, or beyond
 pub split : (n : ℕ) → (n ≤ limit) ⊎ (limit < n)

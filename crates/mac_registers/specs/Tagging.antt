@@ -1,5 +1,5 @@
 -- The running rule: a tag in the making at t bits, as numbers, and what starts, message bytes and closings do to it. Nobody need believe it:
--- the theorems rule-… of mac/proofs/Theorems.antt say that a start, updates and a closing give the standard's tag.
+-- the theorems rule-… of mac_laws/proofs/Theorems.antt say that a start, updates and a closing give the standard's tag.
 use mathlib.Core.List.{List, [], _∷_, _++_}
 use Prim.Native.Nat.{ℕ, suc, _+_, _-_, _*_, _/_, _%_, _^_}
 use lib.Dec.{eqb, ltb}

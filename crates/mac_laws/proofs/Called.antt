@@ -9,22 +9,22 @@ use Rattle.standard.specs.States.{Counted, Stored, formed, formed-128}
 use Rattle.standard.proofs.Promise.{Says}
 use Rattle.keystream.specs.Starts.{startNumber}
 use Rattle.mac_registers.specs.Stored.{tagOf}
 use Rattle.mac.specs.declared.Start128.{Start128}
 use Rattle.mac.specs.declared.Start256.{Start256}
 use Rattle.mac.specs.Calls.{finishOutcome-128, finishOutcome-256, finishTold-128, finishTold-256, onceOutcome-128, onceOutcome-256, onceOutcome-EIA3, onceTold-128, onceTold-256, startOutcome-128, startOutcome-256, startOutcome-EIA3, startTold-128, startTold-256, tagList, tagNumber-128, tagNumber-256, tagWord, updateNumber, updateTold-128, updateTold-256}
 use Rattle.mac.specs.Reading.{taggedOf-128, taggedOf-256}
 use Rattle.mac.specs.Runs.{Tagged-128, Tagged-256, Updates, joined, more}
-use Rattle.mac.proofs.Runs.{ended}
+use Rattle.mac_laws.proofs.Runs.{ended}
 use Rattle.mac.proofs.zuc128.new.Reads as zuc128-new
 use Rattle.mac.proofs.eia3.new.Reads as eia3-new
 use Rattle.mac.proofs.zuc256.new.Reads as zuc256-new
 use Rattle.mac.proofs.zuc128.update.Reads as zuc128-update
 use Rattle.mac.proofs.zuc256.update.Reads as zuc256-update
 use Rattle.mac.proofs.zuc128.finish.Reads as zuc128-finish
 use Rattle.mac.proofs.zuc256.finish.Reads as zuc256-finish
 use Rattle.mac.proofs.zuc128.compute.Reads as zuc128-compute
 use Rattle.mac.proofs.eia3.compute.Reads as eia3-compute
 use Rattle.mac.proofs.zuc256.compute.Reads as zuc256-compute
 
 -- a start, and a one-shot
 pub called-zuc128-new : Says zuc128-new.Post (λ κs a r s. startTold-128 r ≡ startOutcome-128 (now (a .0)) (now (a .1 .0)))

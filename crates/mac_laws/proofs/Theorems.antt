@@ -18,10 +18,10 @@ use Rattle.standard.specs.States.{Counted, Stored, formed, formed-128, fromZero
 use Rattle.mac_registers.specs.Tagging.{begun-EIA3, begun-ZUC256, closed-EIA3, closed-ZUC256, updated}
 use Rattle.mac_registers.proofs.Packed.{tag-back, width-whole}
 use Rattle.mac_tagging.proofs.Rule.{rule-EIA3, rule-ZUC256}
 use Rattle.mac.specs.Calls.{Closing, Outcome, begunTag-128, begunTag-256, closeWords-128, closeWords-256, closing, finishOutcome-128, finishOutcome-256, noWords, startOutcome-128, startOutcome-256, startOutcome-EIA3}
 use Rattle.mac.specs.Runs.{Tagged-128, Tagged-256, joined}
 use Rattle.standard.proofs.Generator.{stream-is}
-use Rattle.mac.proofs.Runs.{at-state, closing-accepted, start-128, start-256, start-EIA3, updates-are}
+use Rattle.mac_laws.proofs.Runs.{at-state, closing-accepted, start-128, start-256, start-EIA3, updates-are}
 
 -- ZUC-128 and EIA3, from any start whose accepted state is begun over what was loaded
 module _ (loaded : State) (start : Outcome) (begun : start .number ≡ 0 → start .state ≡ begunTag-128 loaded .state) where

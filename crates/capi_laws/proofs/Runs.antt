@@ -9,10 +9,10 @@ use lib.ListN.{length}
 use lib.Seq.{getD-append-add}
 use Rattle.capi_arrays.proofs.Fitting.{Small, packed-array, small-updated}
 use Rattle.capi_arrays.specs.Arrays.{storedIn, tagArrayOf}
 use Rattle.capi.specs.Runs.{ArrayAccepts, ArrayTagged, ArrayUpdates}
 use Rattle.capi.specs.Runs as array
 use Rattle.capi.specs.Tags.{ClosingArray, TagArray, closingArray, tagArray}
-use Rattle.mac.proofs.Runs.{update-is, updates-are}
+use Rattle.mac_laws.proofs.Runs.{update-is, updates-are}
 use Rattle.mac.specs.Calls.{Closing, Outcome, updateOutcome}
 use Rattle.mac.specs.Runs.{Accepts, Tagged, Updates, joined, more, none}
 use Rattle.mac_registers.proofs.Packed.{good-updated}

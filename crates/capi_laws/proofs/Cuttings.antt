@@ -5,10 +5,10 @@ use mathlib.Core.Logic.{_↔_}
 use mathlib.Core.Path.{_≡_, refl, subst}
 use Prim.Native.Nat.{ℕ, _+_, _*_, _≤_}
 use lib.ListN.{length}
-use Rattle.capi.proofs.Theorems.{accepts-c-zuc128, accepts-c-zuc256}
+use Rattle.capi_laws.proofs.Theorems.{accepts-c-zuc128, accepts-c-zuc256}
 use Rattle.capi.specs.Runs.{ArrayAccepts-128, ArrayAccepts-256}
 use Rattle.capi.specs.Tags.{tagArray}
-use Rattle.mac.proofs.Cuttings.{every-cutting-zuc128, every-cutting-zuc256, iv-bytes}
+use Rattle.mac_laws.proofs.Cuttings.{every-cutting-zuc128, every-cutting-zuc256, iv-bytes}
 use Rattle.mac.proofs.Outcomes.{begun-EIA3-is}
 use Rattle.mac.specs.Calls.{Outcome, startOutcome-128, startOutcome-256, startOutcome-EIA3}
 use Rattle.mac.specs.Runs.{joined}

@@ -21,11 +21,11 @@ use Rattle.mac_registers.proofs.Packed.{width-whole}
 use Rattle.mac_tagging.proofs.Rule.{drawn-EIA3, drawn-ZUC256, drawn-closing-EIA3, drawn-closing-ZUC256}
 use Rattle.mac_counts.proofs.Drawn.{drew-updated, none-drawn}
 use Rattle.mac_counts.proofs.InTurn.{update-in-turn, updates-EIA3, updates-ZUC256}
 use Rattle.mac.specs.Calls.{Outcome, begunTag-128, begunTag-256, updateOutcome, updateWords}
 use Rattle.mac.specs.Inner.{Within}
 use Rattle.mac.specs.Runs.{Updates, joined, more, none}
 use Rattle.mac.proofs.Outcomes.{holds-short}
-use Rattle.mac.proofs.Runs.{at-state, update-accepted, update-is, updates-are}
+use Rattle.mac_laws.proofs.Runs.{at-state, update-accepted, update-is, updates-are}
 
 -- an update of a, and then one of b, draw what one of both does
 pub words-in-turn : {w : ℕ} (st : Tagging) → length (st .waiting) < w → (a b : List ℕ)

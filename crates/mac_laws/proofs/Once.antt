@@ -14,10 +14,10 @@ use Rattle.standard.proofs.Linear.{EIA3-three, EIA3-two, ZUC256-three, ZUC256-t
 use Rattle.standard.proofs.Tested.{AllPass, Numbered, accepted-passed, passed}
 use Rattle.mac_registers.proofs.Packed.{tag-back, width-is}
 use Rattle.mac_registers.specs.Stored.{tagWords}
 use Rattle.mac.specs.Calls.{Once, Outcome, noWords, onceOutcome-128, onceOutcome-256, refusedOnce, startOutcome-128, startOutcome-256, startOutcome-EIA3}
 use Rattle.mac.specs.Runs.{Computed, Computed-128, Computed-256, Computed-EIA3, Tagged-128, Tagged-256}
 use Rattle.mac.proofs.Outcomes.{once-EIA3-is}
-use Rattle.mac.proofs.Theorems.{rule-eia3, rule-zuc128, rule-zuc256}
+use Rattle.mac_laws.proofs.Theorems.{rule-eia3, rule-zuc128, rule-zuc256}
 
 -- an accepted one-shot passed its tests, and its tag is its answer's
 module _ {Tag : Type 0} {once : List ℕ → ℕ → Once Tag} {numberIn : Tag → ℕ} {m : List ℕ} {l tag : ℕ} (r : Computed once numberIn m l tag) (tests : List Test)

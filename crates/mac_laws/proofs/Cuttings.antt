@@ -28,11 +28,11 @@ use Rattle.mac_registers.specs.Tagging.{Tagging, begun-EIA3, begun-ZUC256, upda
 use Rattle.mac_registers.proofs.Packed.{and-both, good-EIA3, good-ZUC256, good-updated, is-width, well-formed, width-whole}
 use Rattle.mac_counts.proofs.Drawn.{drew-updated}
 use Rattle.mac_counts.proofs.InTurn.{all-EIA3, all-ZUC256, close-in-turn-EIA3, close-in-turn-ZUC256}
 use Rattle.mac.specs.Calls.{Closing, Outcome, begunTag-128, begunTag-256, closeWords-128, closeWords-256, closing, finishOutcome-128, finishOutcome-256, noWords, refusedTag, startOutcome-128, startOutcome-256, startOutcome-EIA3, updateOutcome, updateWords}
 use Rattle.mac.specs.Runs.{Accepts, Accepts-128, Accepts-256, Tagged, Updates, joined, more, none}
 use Rattle.mac.proofs.Accepted.{row-of}
-use Rattle.mac.proofs.Counts.{count-is, words-in-turn}
-use Rattle.mac.proofs.Runs.{closing-accepted, ended, update-accepted, update-is, updates-are}
+use Rattle.mac_laws.proofs.Counts.{count-is, words-in-turn}
+use Rattle.mac_laws.proofs.Runs.{closing-accepted, ended, update-accepted, update-is, updates-are}
 
 -- a state of a good tagging within the limit passes, and an update whose words are left is accepted
 pub tag-formed : (test : Stored → Bool) (s : Counted Stored) → test (s .held) ≡ true → s .count ≤ limit → tagFormed test s ≡ true

@@ -5,15 +5,15 @@ use mathlib.Core.Path.{_≡_, refl, sym, ap, _∙_, subst}
 use Prim.Native.Nat.{ℕ, _*_, _<_}
 use lib.Dec.{lit<}
 use Rattle.capi_arrays.proofs.Fitting.{small-EIA3, small-ZUC256}
-use Rattle.capi.proofs.Runs.{Holds, accepts-alike, inside, outside}
+use Rattle.capi_laws.proofs.Runs.{Holds, accepts-alike, inside, outside}
 use Rattle.capi.specs.Runs.{ArrayAccepts-128, ArrayAccepts-256, ArrayTagged-128, ArrayTagged-256, TwoComputed-128, TwoComputed-EIA3, firstWord}
 use Rattle.capi.specs.Tags.{TagArray, tagArray, twoOnce}
 use Rattle.mac.proofs.Accepted.{row-of}
-use Rattle.mac.proofs.Cuttings.{iv-bytes}
-use Rattle.mac.proofs.Once.{differ-once-eia3, differ-once-zuc128, rule-once-eia3, rule-once-zuc128, same-once-zuc128, same-once-zuc256, xor-once-eia3, xor-once-zuc128}
+use Rattle.mac_laws.proofs.Cuttings.{iv-bytes}
+use Rattle.mac_laws.proofs.Once.{differ-once-eia3, differ-once-zuc128, rule-once-eia3, rule-once-zuc128, same-once-zuc128, same-once-zuc256, xor-once-eia3, xor-once-zuc128}
 use Rattle.mac.proofs.Outcomes.{begun-EIA3-is}
-use Rattle.mac.proofs.Runs.{start-128, start-256}
-use Rattle.mac.proofs.Theorems.{differ-zuc128, differ-zuc256, rule-zuc128, rule-zuc256, xor-zuc128, xor-zuc256}
+use Rattle.mac_laws.proofs.Runs.{start-128, start-256}
+use Rattle.mac_laws.proofs.Theorems.{differ-zuc128, differ-zuc256, rule-zuc128, rule-zuc256, xor-zuc128, xor-zuc256}
 use Rattle.mac.specs.Calls.{Once, Outcome, startOutcome-128, startOutcome-256, startOutcome-EIA3}
 use Rattle.mac.specs.Runs.{Accepts-128, Accepts-256, Computed, Computed-256, Tagged-128, Tagged-256, joined}
 use Rattle.mac_registers.proofs.Packed.{good-EIA3, good-ZUC256}

@@ -1,0 +1,4 @@
+pub mod Runs
+pub mod Theorems
+pub mod Cuttings
+pub mod Called

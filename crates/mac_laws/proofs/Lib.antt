@@ -1,0 +1,6 @@
+pub mod Runs
+pub mod Theorems
+pub mod Once
+pub mod Counts
+pub mod Called
+pub mod Cuttings
