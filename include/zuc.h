@@ -141,10 +141,10 @@ uint32_t zuc_draw(uint32_t state[ZUC_STATE_WORDS], uint32_t *word);
 uint32_t zuc_words(uint32_t state[ZUC_STATE_WORDS], uint32_t *out, size_t n);
 
 /* ---------------------------------------------------------------------------
- * Masking, in place: the same call encrypts and decrypts. Both modes xor the
- * `len` bytes of `buf` with the keystream, highest byte of a word first, and
- * both draw len/4 + 1 words, also when len is a multiple of 4 or 0. They differ
- * in what they leave past the first `bits` bits, which no document defines.
+ * Masking, in place: the same call encrypts and decrypts. Both modes xor `buf`
+ * with the keystream, highest byte of a word first. They differ in what they
+ * leave past the first `bits` bits, which no document defines, and in how many
+ * words they draw: crate mode by the bytes lent, clean mode by the bits.
  * ------------------------------------------------------------------------- */
 
 /*
@@ -152,7 +152,8 @@ uint32_t zuc_words(uint32_t state[ZUC_STATE_WORDS], uint32_t *out, size_t n);
  * byte bits/8 if bits is no multiple of 8, and every byte after byte bits/8.
  * So when bits is a multiple of 8 and below 8 * len, byte bits/8 STAYS MASKED:
  * it is neither plain nor zero. Use zuc_mask_clean unless you must agree with
- * that crate byte for byte.
+ * that crate byte for byte. It draws len/4 + 1 words, whatever `bits` is, also
+ * when len is a multiple of 4 or 0.
  *
  * Alters `buf`, moves `state` on by the words drawn and sets *count to their
  * number. Refuses with ZUC_BAD_STATE, ZUC_BAD_BITS, ZUC_SPENT: *count is then 0,
@@ -162,8 +163,10 @@ uint32_t zuc_mask_crate(uint32_t state[ZUC_STATE_WORDS],
                         uint8_t *buf, size_t len, size_t bits, size_t *count);
 
 /*
- * Masks the first `bits` bits and zeroes every bit after them. In all else as
- * zuc_mask_crate.
+ * Masks the first `bits` bits and zeroes every bit after them. It draws as many
+ * words as the bits reach into, bits/32 rounded up, and none for bits = 0,
+ * whatever `len` is. So blocks that are full and multiples of 4 bytes, masked one
+ * after the other from one state, are masked as if they were one.
  *
  * Alters `buf`, moves `state` on by the words drawn and sets *count to their
  * number. Refuses with ZUC_BAD_STATE, ZUC_BAD_BITS, ZUC_SPENT: *count is then 0,

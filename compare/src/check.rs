@@ -13,7 +13,7 @@ use crate::rules::{
     bits_refusal, first, limit_refusal, mask_words, start_refusal, BAD_STATE, LIMIT, SPENT,
 };
 use crate::users::{with_crate, with_port};
-use crate::{layout, model, original, port, turn};
+use crate::{blocks, layout, model, original, port, turn};
 
 /// What differs.
 pub type Verdict = Result<(), String>;
@@ -154,7 +154,7 @@ fn mask(mode: Mode, start: Start, input: &Input) -> Verdict {
     };
     masked_from(mode, &ring, input)?;
     if mode == Mode::Clean {
-        return Ok(());
+        return blocks::in_turn(&ring, input);
     }
     let (mut expected, mut port) = (input.data.clone(), input.data.clone());
     let answer = caught(|| with_crate::mask(start, input, &mut expected));
@@ -169,13 +169,15 @@ fn masked_from(mode: Mode, ring: &Ring, input: &Input) -> Verdict {
     let Input { data, bits, .. } = input;
     let mut expected = data.clone();
     let by_crate = original::mask(&mut ring.meaning(), &mut expected, *bits);
-    let spent = limit_refusal(ring.count(), mask_words(data.len()));
-    let drawn = by_crate.filter(|_| spent == 0);
+    let words = mask_words(mode, data.len(), *bits);
+    let spent = limit_refusal(ring.count(), words);
+    let drawn = by_crate.filter(|_| spent == 0).map(|_| words);
     if drawn.is_none() {
         expected.copy_from_slice(data);
     } else if mode == Mode::Clean {
-        let words = original::words(&mut ring.meaning(), data.len().div_ceil(4));
-        expected = model::clean(&words, data, *bits);
+        expected = clean_buffer(ring, input, expected)?;
+    } else {
+        same("words that the crate drew", by_crate.unwrap_or(0), words)?;
     }
     let expected_state = ring.after(drawn.unwrap_or(0)).array();
 
@@ -197,6 +199,17 @@ fn masked_from(mode: Mode, ring: &Ring, input: &Input) -> Verdict {
     same_list("state after the mask", &expected_state, &port_state)?;
     same_list("bytes before the buffer", &vec![DIRT; front], &memory[..front])?;
     same_list("bytes after the buffer", &[DIRT; MARGIN], &memory[end..])
+}
+
+/// What clean mode leaves: the model's buffer, and the crate's where that has no stray byte.
+fn clean_buffer(ring: &Ring, input: &Input, by_crate: Vec<u8>) -> Result<Vec<u8>, String> {
+    let Input { data, bits, .. } = input;
+    let words = original::words(&mut ring.meaning(), bits.div_ceil(32));
+    let clean = model::clean(&words, data, *bits);
+    if bits % 8 != 0 || *bits == 8 * data.len() {
+        same_list("the crate's buffer, no stray byte in it, and the model's", &by_crate, &clean)?;
+    }
+    Ok(clean)
 }
 
 fn tag(tagger: Tagger, input: &Input) -> Verdict {

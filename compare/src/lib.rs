@@ -7,11 +7,13 @@
 //!
 //! The cells of the port's states stay put: [`ring`] models that, [`turn`] has one state
 //! in all its turns, and [`turns`] says which are tried. They count the words drawn, up to a
-//! limit: [`limits`] says which are tried about it, and [`spent`] reaches it.
+//! limit: [`limits`] says which are tried about it, and [`spent`] reaches it. Clean masks in
+//! turn are held to one long mask by [`blocks`].
 //!
 //! The guard is not the crate's: a [`walk::Walk`] is a list of calls on one table, held
 //! to a model of sets; [`walks`] says which are tried.
 
+pub mod blocks;
 pub mod check;
 pub mod clock;
 pub mod drawn;

@@ -1,7 +1,7 @@
-//! The refusals of document 01 and of request 2026-09, for what the crate's types leave
+//! The refusals of document 01 and of requests 2026-02 and 2026-09, for what the crate's types leave
 //! no room to ask.
 
-use crate::input::{lengths, Call, Input, Tagger};
+use crate::input::{lengths, Call, Input, Mode, Tagger};
 
 pub const BAD_WIDTH: u32 = 1;
 pub const BAD_KEY: u32 = 2;
@@ -45,9 +45,13 @@ pub fn limit_refusal(count: usize, words: usize) -> u32 {
     }
 }
 
-/// The words that a mask of so many bytes draws.
-pub fn mask_words(bytes: usize) -> usize {
-    bytes / 4 + 1
+/// The words that a mask draws: crate mode by the bytes (document 01), clean mode by the bits
+/// (request 2026-02: as many as EEA3 draws).
+pub fn mask_words(mode: Mode, bytes: usize, bits: usize) -> usize {
+    match mode {
+        Mode::Crate => bytes / 4 + 1,
+        Mode::Clean => bits.div_ceil(32),
+    }
 }
 
 /// The first of two refusals.

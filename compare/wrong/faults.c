@@ -33,6 +33,16 @@ RIGHT(zuc256_tag);
 RIGHT(zuc_guard_accept);
 RIGHT(zuc_guard_rekey);
 
+/* So many words from a state, in place of what a mask drew. */
+static inline void redraw(uint32_t state[ZUC_STATE_WORDS], const uint32_t before[ZUC_STATE_WORDS],
+                          size_t words, size_t *count)
+{
+    uint32_t word;
+    memcpy(state, before, sizeof(uint32_t[ZUC_STATE_WORDS]));
+    for (*count = 0; *count < words; ++*count)
+        zuc_draw(state, &word);
+}
+
 /* The same cells from another index. */
 static inline void turn(uint32_t state[ZUC_STATE_WORDS], uint32_t index)
 {
@@ -44,11 +54,11 @@ static inline void turn(uint32_t state[ZUC_STATE_WORDS], uint32_t index)
 }
 
 #if FAULT == 1 || FAULT == 3 || FAULT == 17 || FAULT == 36 || FAULT == 38 || FAULT == 45 || FAULT == 46 \
-    || FAULT == 52
+    || FAULT == 52 || FAULT == 65
 uint32_t zuc_mask_crate(uint32_t state[ZUC_STATE_WORDS],
                         uint8_t *buf, size_t len, size_t bits, size_t *count)
 {
-    uint32_t before[ZUC_STATE_WORDS], word;
+    uint32_t before[ZUC_STATE_WORDS];
     size_t count_before = *count;
     memcpy(before, state, sizeof before);
     uint32_t refusal = right_zuc_mask_crate(state, buf, len, bits, count);
@@ -58,11 +68,12 @@ uint32_t zuc_mask_crate(uint32_t state[ZUC_STATE_WORDS],
         buf[bits / 8] = 0;
 
     /* fault 3: a mask of 4n bytes draws n words */
-    if (FAULT == 3 && refusal == 0 && len % 4 == 0) {
-        memcpy(state, before, sizeof before);
-        for (*count = 0; *count < len / 4; ++*count)
-            zuc_draw(state, &word);
-    }
+    if (FAULT == 3 && refusal == 0 && len % 4 == 0)
+        redraw(state, before, len / 4, count);
+
+    /* fault 65: crate mode draws ceil(L/32) words */
+    if (FAULT == 65 && refusal == 0)
+        redraw(state, before, bits / 32 + (bits % 32 != 0), count);
 
     /* fault 17: a refused mask says nothing of the count */
     if (FAULT == 17 && refusal != 0)
@@ -91,7 +102,7 @@ uint32_t zuc_mask_crate(uint32_t state[ZUC_STATE_WORDS],
 }
 #endif
 
-#if FAULT == 2 || FAULT == 4 || FAULT == 37 || FAULT == 47
+#if FAULT == 2 || FAULT == 4 || FAULT == 37 || FAULT == 47 || (FAULT > 60 && FAULT < 65) || FAULT == 66
 uint32_t zuc_mask_clean(uint32_t state[ZUC_STATE_WORDS],
                         uint8_t *buf, size_t len, size_t bits, size_t *count)
 {
@@ -100,8 +111,31 @@ uint32_t zuc_mask_clean(uint32_t state[ZUC_STATE_WORDS],
         return zuc_mask_crate(state, buf, len, bits, count);
 
     /* fault 4: the right buffer and state, a made-up count */
-    uint32_t drawn_before = state[COUNT];
+    uint32_t before[ZUC_STATE_WORDS], drawn_before = state[COUNT];
+    memcpy(before, state, sizeof before);
+
+    /* fault 66: 16 by floor(n/4) + 1 words, where clean mode draws fewer */
+    if (FAULT == 66 && bits <= 8 * len && drawn_before <= LIMIT && len / 4 + 1 > LIMIT - drawn_before) {
+        *count = 0;
+        return ZUC_SPENT;
+    }
     uint32_t refusal = right_zuc_mask_clean(state, buf, len, bits, count);
+
+    /* fault 61: clean mode draws floor(n/4) + 1 words, as before request 2026-02 */
+    if (FAULT == 61 && refusal == 0)
+        redraw(state, before, len / 4 + 1, count);
+
+    /* fault 62: clean mode draws ceil(n/4) words */
+    if (FAULT == 62 && refusal == 0)
+        redraw(state, before, (len + 3) / 4, count);
+
+    /* fault 63: clean mode draws floor(L/32) words */
+    if (FAULT == 63 && refusal == 0)
+        redraw(state, before, bits / 32, count);
+
+    /* fault 64: clean mode draws one word for L = 0 */
+    if (FAULT == 64 && refusal == 0 && bits == 0)
+        redraw(state, before, 1, count);
     if (FAULT == 4 && refusal == 0)
         *count = (len + 3) / 4;
 

@@ -104,9 +104,9 @@ static void past_the_bit_length(void)
     CHECK(zuc_draw(state, &word) == 0 && word == words[2]);
 
     memcpy(state, start, sizeof state);
-    CHECK(zuc_mask_clean(state, clean, 4, 8, &count) == 0 && count == 2);
+    CHECK(zuc_mask_clean(state, clean, 4, 8, &count) == 0 && count == 1);
     CHECK(memcmp(clean, "\x27\x00\x00\x00", 4) == 0);
-    CHECK(zuc_draw(state, &word) == 0 && word == words[2]);
+    CHECK(zuc_draw(state, &word) == 0 && word == words[1]);
 }
 
 /* 128-EIA3 test sets 1 and 2; the paper's tags over 400 zero bits. */
@@ -350,7 +350,7 @@ static void null_pointers(void)
     CHECK(zuc128_start(state, zeros, 16, zeros, 16) == 0);
     CHECK(zuc_words(state, NULL, 0) == 0);
     CHECK(zuc_mask_crate(state, NULL, 0, 0, &count) == 0 && count == 1);
-    CHECK(zuc_mask_clean(state, NULL, 0, 0, &count) == 0 && count == 1);
+    CHECK(zuc_mask_clean(state, NULL, 0, 0, &count) == 0 && count == 0);
     CHECK(zuc_mask_clean(state, NULL, 0, 1, &count) == ZUC_BAD_BITS);
 
     CHECK(zuc128_tag_start(tag_state, NULL, 0, NULL, 0) == ZUC_BAD_KEY);

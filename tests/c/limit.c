@@ -52,8 +52,8 @@ static void counts_of_calls(void)
         CHECK(zuc_words(state, out, n) == 0 && state[COUNT] == (sum += n));
         CHECK(zuc_mask_crate(state, buf, n, 8 * n, &count) == 0 && count == n / 4 + 1);
         CHECK(state[COUNT] == (sum += n / 4 + 1));
-        CHECK(zuc_mask_clean(state, buf, n, 3 * n, &count) == 0 && count == n / 4 + 1);
-        CHECK(state[COUNT] == (sum += n / 4 + 1));
+        CHECK(zuc_mask_clean(state, buf, n, 3 * n, &count) == 0 && count == (3 * n + 31) / 32);
+        CHECK(state[COUNT] == (sum += (3 * n + 31) / 32));
         CHECK(zuc_mask_clean(state, buf, n, 8 * n + 1, &count) == ZUC_BAD_BITS);
         CHECK(state[COUNT] == sum);
     }
@@ -115,24 +115,31 @@ static void words(uint32_t left)
 
 typedef uint32_t mask_call(uint32_t *, uint8_t *, size_t, size_t, size_t *);
 
+/* The words of a mask: crate mode goes by the bytes lent, clean mode by the bits. */
+static size_t mask_words(mask_call *mask, size_t len, size_t bits)
+{
+    return mask == zuc_mask_crate ? len / 4 + 1 : bits / 32 + (bits % 32 != 0);
+}
+
 /* Masks: a bit length past the end is refused first, even with no word left. */
 static void masks(mask_call *mask, uint32_t left)
 {
     uint32_t before[ZUC_STATE_WORDS], state[ZUC_STATE_WORDS], answer;
     uint8_t plain[270], buf[270];
-    size_t len, less, bits, count;
+    size_t len, less, bits, count, words;
 
     memset(plain, 0xa5, sizeof plain);
     left_of(before, left);
     for (len = 0; len <= 4 * left + 9; len++)
-        for (less = 0; less <= 17; less++) {
+        for (less = 0; less <= 73; less++) {
             bits = 8 * len + 1 - (less <= 8 * len + 1 ? less : 0);
+            words = mask_words(mask, len, bits);
             memcpy(state, before, sizeof state);
             memcpy(buf, plain, sizeof buf);
             count = 7;
             answer = mask(state, buf, len, bits, &count);
-            if (bits <= 8 * len && len / 4 + 1 <= left) {
-                CHECK(answer == 0 && count == len / 4 + 1);
+            if (bits <= 8 * len && words <= left) {
+                CHECK(answer == 0 && count == words);
                 CHECK(state[COUNT] == LIMIT - left + count && drawn(state, before, count));
                 continue;
             }

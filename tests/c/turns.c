@@ -69,7 +69,7 @@ static void many_draws(void)
             CHECK(zuc_mask_crate(state, buf, n, 8 * n, &count) == 0 && count == n / 4 + 1);
             CHECK(state[INDEX] == (i + count) % 16 && drawn(state, before, count));
             memcpy(state, before, sizeof state);
-            CHECK(zuc_mask_clean(state, buf, n, 4 * n, &count) == 0 && count == n / 4 + 1);
+            CHECK(zuc_mask_clean(state, buf, n, 4 * n, &count) == 0 && count == (4 * n + 31) / 32);
             CHECK(state[INDEX] == (i + count) % 16 && drawn(state, before, count));
         }
 }

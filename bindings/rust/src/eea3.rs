@@ -89,7 +89,7 @@ pub fn try_eea3_xor_inplace(
 ///
 /// # Panics
 /// If `bitlen` is more than `8 * data.len()`, or if it would draw more than
-/// [`WORDS_PER_START`](crate::WORDS_PER_START) words: from 2^29 + 8 bytes on.
+/// [`WORDS_PER_START`](crate::WORDS_PER_START) words: from 2^32 + 65 bits on.
 pub fn eea3_xor_clean(
     count: u32,
     bearer: u8,

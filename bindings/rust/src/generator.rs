@@ -82,7 +82,10 @@ macro_rules! beside_the_crate {
             }
 
             /// Masks the first `bitlen` bits of `data` in place and zeroes every bit after
-            /// them; answers how many words it drew, as [`xor_inplace`](Self::xor_inplace).
+            /// them; answers how many words it drew: `bitlen / 32`, rounded up.
+            ///
+            /// So blocks that are full and multiples of 4 bytes, masked one after the other,
+            /// are masked as if they were one.
             ///
             /// # Panics
             /// If `bitlen` is more than `8 * data.len()`, or if it would draw more words

@@ -75,7 +75,7 @@ pub fn try_zuc128_xor_inplace(
 ///
 /// # Panics
 /// If `bitlen` is more than `8 * data.len()`, or if it would draw more than
-/// [`WORDS_PER_START`](crate::WORDS_PER_START) words: from 2^29 + 8 bytes on.
+/// [`WORDS_PER_START`](crate::WORDS_PER_START) words: from 2^32 + 65 bits on.
 pub fn zuc128_xor_clean(ck: &[u8; 16], iv: &[u8; 16], data: &mut [u8], bitlen: usize) {
     or_panic(try_zuc128_xor_clean(ck, iv, data, bitlen));
 }

@@ -48,7 +48,8 @@ macro_rules! spend {
         assert!(says_spent(|| zuc.generate()));
         assert!(says_spent(|| zuc.generate_into(&mut [0])));
         assert!(says_spent(|| zuc.xor_inplace(&mut [0; 3], 24)));
-        assert!(says_spent(|| zuc.xor_clean(&mut [0; 3], 0)));
+        assert!(says_spent(|| zuc.xor_clean(&mut [0; 3], 1)));
+        assert_eq!(zuc.try_xor_clean(&mut [0; 3], 0), Ok(0));
     }};
 }
 
@@ -134,33 +135,38 @@ fn one_bit_too_long_for_zuc256() {
     assert_eq!(past_the_end, Err(Refusal::Bits));
 }
 
-/// 2^29 + 8 bytes draw one word more than a start has.
+/// 2^29 + 9 bytes, all of them masked, draw one word more than a start has. Crate mode draws
+/// as many for any bit length, clean mode for these bits.
 #[test]
 fn masks_too_long() {
     let key = [7; 16];
-    let mut data = vec![0; (1 << 29) + 8];
+    let mut data = vec![0; (1 << 29) + 9];
+    let all = 8 * data.len();
     assert!(says_spent(|| eea3::eea3_xor_inplace(
         1, 2, 0, &key, &mut data, 8
     )));
     assert!(says_spent(|| eea3::eea3_xor_clean(
-        1, 2, 0, &key, &mut data, 0
+        1, 2, 0, &key, &mut data, all
     )));
     assert!(says_spent(|| zuc128::zuc128_xor_inplace(
         &key, &key, &mut data, 8
     )));
     assert!(says_spent(|| zuc128::zuc128_xor_clean(
-        &key, &key, &mut data, 0
+        &key, &key, &mut data, all
     )));
     for answer in [
         eea3::try_eea3_xor_inplace(1, 2, 0, &key, &mut data, 8),
-        eea3::try_eea3_xor_clean(1, 2, 0, &key, &mut data, 8),
+        eea3::try_eea3_xor_clean(1, 2, 0, &key, &mut data, all - 7),
         zuc128::try_zuc128_xor_inplace(&key, &key, &mut data, 8),
-        zuc128::try_zuc128_xor_clean(&key, &key, &mut data, 8),
+        zuc128::try_zuc128_xor_clean(&key, &key, &mut data, all - 7),
     ] {
         assert_eq!(answer, Err(Refusal::Limit));
     }
     assert_eq!(data[..8], [0; 8]);
+    assert_eq!(eea3::try_eea3_xor_clean(1, 2, 0, &key, &mut data, 8), Ok(1));
 }
+
+type Mask = fn(&mut State, &mut [u8], usize, &mut usize) -> u32;
 
 fn started(count: u32) -> State {
     let mut state = [7; STATE_WORDS];
@@ -183,12 +189,14 @@ fn counts_that_a_caller_has_set() {
                 assert_eq!(capi::zuc_words(&mut lent, &mut out), SPENT);
                 assert_eq!((lent, out), (state, vec![7; n as usize]));
             }
-            for mask in [capi::zuc_mask_crate, capi::zuc_mask_clean] {
+            let by_bytes: (Mask, u32) = (capi::zuc_mask_crate, n / 4 + 1);
+            let by_bits: (Mask, u32) = (capi::zuc_mask_clean, n.div_ceil(4));
+            for (mask, words) in [by_bytes, by_bits] {
                 let (mut lent, mut data, mut count) = (state, vec![7; n as usize], 7);
                 let answer = mask(&mut lent, &mut data, 8 * n as usize, &mut count);
-                if n / 4 < left {
-                    assert_eq!((answer, count), (0, n as usize / 4 + 1));
-                    assert_eq!(lent[COUNT], state[COUNT] + n / 4 + 1);
+                if words <= left {
+                    assert_eq!((answer, count), (0, words as usize));
+                    assert_eq!(lent[COUNT], state[COUNT] + words);
                 } else {
                     assert_eq!((answer, count), (SPENT, 0));
                     assert_eq!((lent, data), (state, vec![7; n as usize]));

@@ -94,13 +94,30 @@ fn a_refused_finish_can_go_on() {
 }
 
 #[test]
-fn no_bytes_draw_one_word() {
+fn no_bytes_draw_one_word_as_the_crate_and_none_in_clean_mode() {
     let mut zuc = Zuc256Keystream::new(&[4; 32], &[5; 23]);
     let mut ahead = zuc.clone();
     assert_eq!(zuc.try_xor_inplace(&mut [], 0), Ok(1));
-    assert_eq!(zuc.try_xor_clean(&mut [], 0), Ok(1));
-    ahead.generate_into(&mut [0; 2]);
+    assert_eq!(zuc.try_xor_clean(&mut [], 0), Ok(0));
+    assert_eq!(zuc.try_xor_clean(&mut [7; 9], 0), Ok(0));
+    ahead.generate_into(&mut [0; 1]);
     assert_eq!(zuc.generate(), ahead.generate());
+}
+
+/// Request 2026-02: a head end masks 32 bytes and then 32 more from the state that they leave.
+#[test]
+fn blocks_from_one_start() {
+    let start = || Eea3Keystream::new(1, 2, 0, &[6; 16]);
+    let (mut at_once, mut in_turn) = ([0; 71], [0; 71]);
+    let (mut one, mut zuc) = (start(), start());
+    assert_eq!(one.xor_clean(&mut at_once, 565), 18);
+    let drawn: Vec<usize> = [(0..32, 256), (32..64, 256), (64..71, 53)]
+        .into_iter()
+        .map(|(block, bits)| zuc.xor_clean(&mut in_turn[block], bits))
+        .collect();
+    assert_eq!((drawn, in_turn), (vec![8, 8, 2], at_once));
+    assert_eq!(zuc.generate(), one.generate());
+    assert_eq!(start().xor_inplace(&mut in_turn[..32], 256), 9);
 }
 
 /// Document P11: words 11223344 55667788 are not to be had from a start, so the

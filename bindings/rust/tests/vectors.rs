@@ -78,6 +78,8 @@ fn eea3(count: u32, bearer: u8, direction: u8, key: &str, bits: usize, data: &st
     let mut masked = hex(data);
     let drawn = Eea3Keystream::new(count, bearer, direction, &ck).xor_inplace(&mut masked, bits);
     assert_eq!((masked, drawn), (buffer.clone(), buffer.len() / 4 + 1));
+    let drawn = Eea3Keystream::new(count, bearer, direction, &ck).xor_clean(&mut hex(data), bits);
+    assert_eq!(drawn, bits.div_ceil(32));
     buffer
 }
 

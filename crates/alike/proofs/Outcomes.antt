@@ -5,7 +5,7 @@ use mathlib.Core.Path.{_≡_, refl, ap}
 use Prim.Native.Nat.{ℕ}
 use lib.Dec.{lit<}
 use lib.ListN.{length}
-use Rattle.standard.specs.Confidentiality.{maskClean, maskCrate, wordsToMask}
+use Rattle.standard.specs.Confidentiality.{maskClean, maskCrate, wordsToMaskClean, wordsToMaskCrate}
 use Rattle.standard.specs.Generator.{word, wordAt}
 use Rattle.standard.specs.Notation.{listed}
 use Rattle.standard.specs.Refusals.{Test, bitsTest, limitTest, stateTest}
@@ -50,10 +50,10 @@ module _ {g k : Counted Held} (e : AlikeGenerator g k) where
         (record { number = refl; count = refl; state = alike-drawn e words; buffer = m })
 
     pub crate-agrees : AgreeMask (crateOutcome g L buffer) (crateOutcome k L buffer)
-    crate-agrees = mask-agrees (wordsToMask (length buffer)) (λ i. maskCrate (wordAt (e .held .meaning i)) L buffer)
+    crate-agrees = mask-agrees (wordsToMaskCrate (length buffer)) (λ i. maskCrate (wordAt (e .held .meaning i)) L buffer)
 
     pub clean-agrees : AgreeMask (cleanOutcome g L buffer) (cleanOutcome k L buffer)
-    clean-agrees = mask-agrees (wordsToMask (length buffer)) (λ i. maskClean (wordAt (e .held .meaning i)) L buffer)
+    clean-agrees = mask-agrees (wordsToMaskClean L) (λ i. maskClean (wordAt (e .held .meaning i)) L buffer)
 
 -- a state of zeros is alike to itself
 zeros-alike : AlikeTag (fromStart zeroStored) (fromStart zeroStored)

@@ -7,9 +7,9 @@ use lib.ListN.{length}
 use Rattle.capi_arrays.specs.Arrays.{storedIn}
 use Rattle.capi.specs.Tags.{ClosingArray, TagArray, closingArray, tagArray, twoClosing, twoOnce}
 use Rattle.mac.specs.Calls.{Closing, finishOutcome-128, finishOutcome-256, onceOutcome-128, onceOutcome-EIA3, updateOutcome}
-use Rattle.mac.specs.Runs.{Computed, joined}
+use Rattle.mac.specs.Runs.{Computed}
 use Rattle.mac_registers.specs.Stored.{tagOf}
-use Rattle.standard.specs.Notation.{_⟨_⟩}
+use Rattle.standard.specs.Notation.{_⟨_⟩, joined}
 use Rattle.standard.specs.States.{Counted, Stored, formed, formed-128, tagFormed}
 use Rattle.zuc_loading.proofs.Loaded.{Bytes}
 

@@ -11,9 +11,9 @@ use Rattle.capi.specs.Tags.{tagArray}
 use Rattle.mac_laws.proofs.Cuttings.{every-cutting-zuc128, every-cutting-zuc256, iv-bytes}
 use Rattle.mac.proofs.Outcomes.{begun-EIA3-is}
 use Rattle.mac.specs.Calls.{Outcome, startOutcome-128, startOutcome-256, startOutcome-EIA3}
-use Rattle.mac.specs.Runs.{joined}
 use Rattle.mac_registers.specs.Inner.{Width}
 use Rattle.standard.specs.Integrity.{IV-EIA3, drawnByTag-EIA3, drawnByTag-ZUC256}
+use Rattle.standard.specs.Notation.{joined}
 use Rattle.standard.specs.States.{limit}
 use Rattle.zuc_loading.proofs.Loaded.{Bytes}
 

@@ -14,11 +14,12 @@ use Rattle.capi.specs.Runs as array
 use Rattle.capi.specs.Tags.{ClosingArray, TagArray, closingArray, tagArray}
 use Rattle.mac_laws.proofs.Runs.{update-is, updates-are}
 use Rattle.mac.specs.Calls.{Closing, Outcome, updateOutcome}
-use Rattle.mac.specs.Runs.{Accepts, Tagged, Updates, joined, more, none}
+use Rattle.mac.specs.Runs.{Accepts, Tagged, Updates, more, none}
 use Rattle.mac_registers.proofs.Packed.{good-updated}
 use Rattle.mac_registers.specs.Inner.{Good}
 use Rattle.mac_registers.specs.Stored.{packed}
 use Rattle.mac_registers.specs.Tagging.{Tagging, updated}
+use Rattle.standard.specs.Notation.{joined}
 use Rattle.standard.specs.States.{Counted, Stored, tagFormed}
 use Rattle.zuc_loading.proofs.Loaded.{Bytes}
 

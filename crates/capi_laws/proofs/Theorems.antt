@@ -15,7 +15,7 @@ use Rattle.mac.proofs.Outcomes.{begun-EIA3-is}
 use Rattle.mac_laws.proofs.Runs.{start-128, start-256}
 use Rattle.mac_laws.proofs.Theorems.{differ-zuc128, differ-zuc256, rule-zuc128, rule-zuc256, xor-zuc128, xor-zuc256}
 use Rattle.mac.specs.Calls.{Once, Outcome, startOutcome-128, startOutcome-256, startOutcome-EIA3}
-use Rattle.mac.specs.Runs.{Accepts-128, Accepts-256, Computed, Computed-256, Tagged-128, Tagged-256, joined}
+use Rattle.mac.specs.Runs.{Accepts-128, Accepts-256, Computed, Computed-256, Tagged-128, Tagged-256}
 use Rattle.mac_registers.proofs.Packed.{good-EIA3, good-ZUC256}
 use Rattle.mac_registers.specs.Tagging.{begun-EIA3, begun-ZUC256}
 use Rattle.standard.proofs.Generator.{sound-started}
@@ -23,7 +23,7 @@ use Rattle.standard.specs.Bits.{M, differs, z}
 use Rattle.standard.specs.Generator.{State, keystream, started}
 use Rattle.standard.specs.Integrity.{IV-EIA3, T, tag-EIA3, tag-ZUC256}
 use Rattle.standard.specs.Loading.{load₁₂₈, load₂₅₆, rowOf}
-use Rattle.standard.specs.Notation.{_⊕_}
+use Rattle.standard.specs.Notation.{_⊕_, joined}
 use Rattle.standard.specs.States.{Counted, Stored, fromZero}
 use Rattle.zuc_loading.proofs.Loaded.{Bytes, cells-128, cells-256}
 

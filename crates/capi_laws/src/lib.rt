@@ -1,1 +1,1 @@
-// Theorems only: states that are equal in meaning get equal answers. specs/ says what that is, proofs/ why it is so.
+// Theorems only: what mac_laws says of runs of calls, of the C functions over their arrays.

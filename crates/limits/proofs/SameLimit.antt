@@ -12,6 +12,7 @@ use borrow.Author.Tests.{eq-eqb, le-leb, lt-leb}
 use Rattle.standard.specs.Generator.{State, started}
 use Rattle.standard.specs.Integrity.{IV-EIA3, drawnAfter-ZUC256, drawnByTag-EIA3, drawnByTag-ZUC256, wordsToClose-EIA3, wordsToClose-ZUC256, wordsToUpdate}
 use Rattle.standard.specs.Loading.{load₁₂₈, load₂₅₆, rowOf}
+use Rattle.standard.specs.Notation.{joined}
 use Rattle.standard.specs.Refusals.{accepted, spent, tested}
 use Rattle.standard.specs.States.{Counted, Stored, formed, formed-128, fromZero, limit, tagFormed}
 use Rattle.standard.proofs.Cells.{Cells}
@@ -23,7 +24,7 @@ use Rattle.mac_registers.proofs.Packed.{good-EIA3, good-ZUC256, good-updated, i
 use Rattle.mac_counts.proofs.Drawn.{drew-updated}
 use Rattle.mac_counts.proofs.InTurn.{all-EIA3, all-ZUC256}
 use Rattle.mac.specs.Calls.{Closing, Once, Outcome, begunTag-128, finishOutcome-128, finishOutcome-256, onceOutcome-128, onceOutcome-256, onceOutcome-EIA3, startOutcome-128, startOutcome-256, startOutcome-EIA3, updateOutcome, updateWords}
-use Rattle.mac.specs.Runs.{Accepts-128, Accepts-256, joined}
+use Rattle.mac.specs.Runs.{Accepts-128, Accepts-256}
 use Rattle.mac.proofs.Accepted.{row-of}
 use Rattle.mac_laws.proofs.Cuttings.{Kind, begins-zuc128, begins-zuc256, every-cutting-zuc128, every-cutting-zuc256, good-start, iv-bytes, kind-128, kind-256, update-ok}
 use Rattle.mac.proofs.Outcomes.{begun-EIA3-is, once-EIA3-is}

@@ -5,6 +5,7 @@ use mathlib.Core.Path.{_≡_}
 use Prim.Native.Nat.{ℕ, _+_, _*_}
 use lib.ListN.{length}
 use Rattle.mac_registers.specs.Stored.{tagOf}
+use Rattle.standard.specs.Notation.{joined}
 use Rattle.standard.specs.States.{Counted, Stored, formed, formed-128, tagFormed}
 use Rattle.mac.specs.Calls.{Closing, Once, Outcome, finishOutcome-128, finishOutcome-256, onceOutcome-128, onceOutcome-256, onceOutcome-EIA3, updateOutcome}
 
@@ -13,11 +14,6 @@ pub data Updates (test : Stored → Bool) : Counted Stored → List (List ℕ) �
   none : {s : Counted Stored} → Updates test s [] s
   more : {s s′ : Counted Stored} {part : List ℕ} {parts : List (List ℕ)} (o : Outcome) → o ≡ updateOutcome (tagFormed test s) s part → o .number ≡ 0
       → Updates test (o .state) parts s′ → Updates test s (part ∷ parts) s′
-
--- the parts of a message, joined
-unfoldable pub joined : List (List ℕ) → List ℕ
-joined [] = []
-joined (part ∷ parts) = part ++ joined parts
 
 -- a tag of a message of L bits, from a start's outcome: by the test of its states, what its closing answers, and the number in the tag's words
 pub record Tagged {Tag : Type 0} (test : Stored → Bool) (finishOutcome : Counted Stored → List ℕ → ℕ → Closing Tag) (numberIn : Tag → ℕ)

@@ -4,6 +4,7 @@ use mathlib.Core.List.{List, _∷_, _++_}
 use mathlib.Core.Path.{_≡_}
 use Prim.Native.Nat.{ℕ, _+_, _*_}
 use lib.ListN.{length}
+use Rattle.standard.specs.Notation.{joined}
 use Rattle.standard.specs.Refusals.{accepted}
 use Rattle.standard.specs.States.{Counted, Stored, formed, formed-128}
 use Rattle.standard.proofs.Promise.{Says}
@@ -13,7 +14,7 @@ use Rattle.mac.specs.declared.Start128.{Start128}
 use Rattle.mac.specs.declared.Start256.{Start256}
 use Rattle.mac.specs.Calls.{finishOutcome-128, finishOutcome-256, finishTold-128, finishTold-256, onceOutcome-128, onceOutcome-256, onceOutcome-EIA3, onceTold-128, onceTold-256, startOutcome-128, startOutcome-256, startOutcome-EIA3, startTold-128, startTold-256, tagList, tagNumber-128, tagNumber-256, tagWord, updateNumber, updateTold-128, updateTold-256}
 use Rattle.mac.specs.Reading.{taggedOf-128, taggedOf-256}
-use Rattle.mac.specs.Runs.{Tagged-128, Tagged-256, Updates, joined, more}
+use Rattle.mac.specs.Runs.{Tagged-128, Tagged-256, Updates, more}
 use Rattle.mac_laws.proofs.Runs.{ended}
 use Rattle.mac.proofs.zuc128.new.Reads as zuc128-new
 use Rattle.mac.proofs.eia3.new.Reads as eia3-new

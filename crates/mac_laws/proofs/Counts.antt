@@ -12,6 +12,7 @@ use lib.ListN.{length, length-append}
 use borrow.Author.Tests.{le-leb}
 use Rattle.standard.specs.Generator.{State, started}
 use Rattle.standard.specs.Integrity.{drawnAfter-EIA3, drawnAfter-ZUC256, drawnByTag-EIA3, drawnByTag-ZUC256, wordsToUpdate}
+use Rattle.standard.specs.Notation.{joined}
 use Rattle.standard.specs.Refusals.{tested}
 use Rattle.standard.specs.States.{Counted, Stored, formed, formed-128, fromZero, limit, moved, tagFormed}
 use Rattle.mac_registers.specs.Stored.{packed, taggingOf}
@@ -23,7 +24,7 @@ use Rattle.mac_counts.proofs.Drawn.{drew-updated, none-drawn}
 use Rattle.mac_counts.proofs.InTurn.{update-in-turn, updates-EIA3, updates-ZUC256}
 use Rattle.mac.specs.Calls.{Outcome, begunTag-128, begunTag-256, updateOutcome, updateWords}
 use Rattle.mac.specs.Inner.{Within}
-use Rattle.mac.specs.Runs.{Updates, joined, more, none}
+use Rattle.mac.specs.Runs.{Updates, more, none}
 use Rattle.mac.proofs.Outcomes.{holds-short}
 use Rattle.mac_laws.proofs.Runs.{at-state, update-accepted, update-is, updates-are}
 

@@ -15,6 +15,7 @@ use Rattle.standard.specs.Bits.{byteOf}
 use Rattle.standard.specs.Generator.{State, started}
 use Rattle.standard.specs.Integrity.{IV-EIA3, drawnByTag-EIA3, drawnByTag-ZUC256, wordsToClose-EIA3, wordsToClose-ZUC256, wordsToUpdate}
 use Rattle.standard.specs.Loading.{load₁₂₈, load₂₅₆, rowOf}
+use Rattle.standard.specs.Notation.{joined}
 use Rattle.standard.specs.Refusals.{bitsTest, ivTest, keyTest, limitTest, spent, stateTest, tested, widthTest}
 use Rattle.standard.specs.States.{Counted, Stored, formed, formed-128, fromZero, limit, tagFormed}
 use Rattle.standard.proofs.Cells.{Cells}
@@ -29,7 +30,7 @@ use Rattle.mac_registers.proofs.Packed.{and-both, good-EIA3, good-ZUC256, good-
 use Rattle.mac_counts.proofs.Drawn.{drew-updated}
 use Rattle.mac_counts.proofs.InTurn.{all-EIA3, all-ZUC256, close-in-turn-EIA3, close-in-turn-ZUC256}
 use Rattle.mac.specs.Calls.{Closing, Outcome, begunTag-128, begunTag-256, closeWords-128, closeWords-256, closing, finishOutcome-128, finishOutcome-256, noWords, refusedTag, startOutcome-128, startOutcome-256, startOutcome-EIA3, updateOutcome, updateWords}
-use Rattle.mac.specs.Runs.{Accepts, Accepts-128, Accepts-256, Tagged, Updates, joined, more, none}
+use Rattle.mac.specs.Runs.{Accepts, Accepts-128, Accepts-256, Tagged, Updates, more, none}
 use Rattle.mac.proofs.Accepted.{row-of}
 use Rattle.mac_laws.proofs.Counts.{count-is, words-in-turn}
 use Rattle.mac_laws.proofs.Runs.{closing-accepted, ended, update-accepted, update-is, updates-are}

@@ -8,6 +8,7 @@ use lib.ListN.{length}
 use borrow.Author.Tests.{leb-true}
 use Rattle.standard.specs.Loading.{load₁₂₈, load₂₅₆, rowOf}
 use Rattle.standard.specs.Integrity.{IV-EIA3}
+use Rattle.standard.specs.Notation.{joined}
 use Rattle.standard.specs.Refusals.{Test, accepted, bitsTest, ivTest, keyTest, limitTest, stateTest, tested, widthTest}
 use Rattle.standard.specs.States.{Counted, Stored, fromStart, limit, tagFormed, zeroStored}
 use Rattle.standard.proofs.Tested.{AllPass, Numbered, accepted-passed, passed}
@@ -17,7 +18,7 @@ use Rattle.mac_registers.specs.Tagging.{Tagging, updated}
 use Rattle.mac_registers.proofs.Cutting.{updated-append}
 use Rattle.mac_registers.proofs.Packed.{read-back, width-is}
 use Rattle.mac.specs.Calls.{Closing, Outcome, begunTag-128, begunTag-256, closing, refusedClosing, refusedTag, refusedUpdate, startOutcome-128, startOutcome-256, startOutcome-EIA3, takenIn, updateOutcome, updateWords}
-use Rattle.mac.specs.Runs.{Tagged, Updates, joined, more, none}
+use Rattle.mac.specs.Runs.{Tagged, Updates, more, none}
 
 -- an accepted update and an accepted closing, told by their definitions
 pub update-accepted : (ok : Bool) (s : Counted Stored) (m : List ℕ) → updateOutcome ok s m .number ≡ 0

@@ -6,7 +6,7 @@ use mathlib.Core.Path.{_≡_, refl, sym, ap, ap₂, _∙_}
 use Prim.Native.Nat.{ℕ, _+_, _*_, _<_, _≤_}
 use lib.Bits.{bitXor}
 use lib.ListN.{length}
-use Rattle.standard.specs.Notation.{_⊕_}
+use Rattle.standard.specs.Notation.{_⊕_, joined}
 use Rattle.standard.specs.Bits.{M, differs, z}
 use Rattle.standard.specs.Generator.{State, keystream, started, wordAt}
 use Rattle.standard.specs.Integrity.{IV-EIA3, T, tag-EIA3, tag-ZUC256}
@@ -19,7 +19,7 @@ use Rattle.mac_registers.specs.Tagging.{begun-EIA3, begun-ZUC256, closed-EIA3, 
 use Rattle.mac_registers.proofs.Packed.{tag-back, width-whole}
 use Rattle.mac_tagging.proofs.Rule.{rule-EIA3, rule-ZUC256}
 use Rattle.mac.specs.Calls.{Closing, Outcome, begunTag-128, begunTag-256, closeWords-128, closeWords-256, closing, finishOutcome-128, finishOutcome-256, noWords, startOutcome-128, startOutcome-256, startOutcome-EIA3}
-use Rattle.mac.specs.Runs.{Tagged-128, Tagged-256, joined}
+use Rattle.mac.specs.Runs.{Tagged-128, Tagged-256}
 use Rattle.standard.proofs.Generator.{stream-is}
 use Rattle.mac_laws.proofs.Runs.{at-state, closing-accepted, start-128, start-256, start-EIA3, updates-are}
 

@@ -1,1 +1,1 @@
-// Theorems only: states that are equal in meaning get equal answers. specs/ says what that is, proofs/ why it is so.
+// Theorems only, about runs of the calls of mac: the rule, demand 3, the words drawn, which cuttings are accepted.

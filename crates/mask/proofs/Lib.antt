@@ -1,4 +1,3 @@
 pub mod Clear
 pub mod Outcomes
 pub mod Tight
-pub mod EEA3

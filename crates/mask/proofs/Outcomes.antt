@@ -1,11 +1,11 @@
 -- An outcome by its tests: which refusal, or the mask; and each mode's outcome as the inner function's.
 use mathlib.Core.Bool.{true, false}
 use mathlib.Core.List.{List}
-use mathlib.Core.Path.{_≡_, refl, sym, ap, _∙_}
+use mathlib.Core.Path.{_≡_, refl, sym, ap, ap₂, _∙_}
 use Prim.Native.Nat.{ℕ, _+_, _*_}
 use lib.Dec.{leb}
 use lib.ListN.{length}
-use Rattle.standard.specs.Confidentiality.{maskClean, wordsToMask}
+use Rattle.standard.specs.Confidentiality.{maskClean, wordsToMaskClean, wordsToMaskCrate}
 use Rattle.standard.specs.Refusals.{badBits, badState, spent, tested}
 use Rattle.standard.specs.Generator.{wordAt}
 use Rattle.standard.specs.States.{Counted, Held, generatorFormed, limit, moved}
@@ -37,10 +37,10 @@ module _ (g : Counted Held) (words L : ℕ) (buffer masked : List ℕ) where
       rw (w, l, m) (λ i. record { number = 0; count = en i; state = record { held = es i; count = ec i }; buffer = eb i })
 
 module _ (g : Counted Held) (L : ℕ) (buffer : List ℕ) where
-  pub clean-mode : (end : ℕ) → end ≡ L → outcomeTo end g L buffer ≡ cleanOutcome g L buffer
-  clean-mode end e = ap (λ (x : ℕ). outcomeTo x g L buffer) e
+  pub clean-mode : (words end : ℕ) → words ≡ wordsToMaskClean L → end ≡ L → outcomeTo words end g L buffer ≡ cleanOutcome g L buffer
+  clean-mode words end d e = ap₂ (λ (n x : ℕ). outcomeTo n x g L buffer) d e
 
-  pub crate-mode : (end : ℕ) → end ≡ crateEnd L → outcomeTo end g L buffer ≡ crateOutcome g L buffer
-  crate-mode end e =
-      ap (maskTested g (wordsToMask (length buffer)) L buffer)
+  pub crate-mode : (words end : ℕ) → words ≡ wordsToMaskCrate (length buffer) → end ≡ crateEnd L → outcomeTo words end g L buffer ≡ crateOutcome g L buffer
+  crate-mode words end d e =
+      ap₂ (λ (n : ℕ) (x : List ℕ). maskTested g n L buffer x) d
       (ap (λ (x : ℕ). maskClean (wordAt (g .held .meaning)) x buffer) e ∙ sym (crate-clean (wordAt (g .held .meaning)) L buffer))

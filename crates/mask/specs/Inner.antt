@@ -1,9 +1,8 @@
 -- Inner functions only: what they clear, and both modes as one.
 use mathlib.Core.List.{List}
-use Prim.Native.Nat.{ℕ}
+use Prim.Native.Nat.{ℕ, _+_, _*_, _/_, _<_, _≤_}
 use lib.Dec.{ltb}
-use lib.ListN.{length}
-use Rattle.standard.specs.Confidentiality.{keepHigh, keptByClean, maskClean, wordsToMask}
+use Rattle.standard.specs.Confidentiality.{keepHigh, keptByClean, maskClean}
 use Rattle.standard.specs.Generator.{wordAt}
 use Rattle.standard.specs.States.{Counted, Held}
 use Rattle.standard.specs.Notation.{if_then_else_}
@@ -17,6 +16,13 @@ zeroed from j byte = if ltb j from then byte else 0
 abbrev pub cleared : ℕ → ℕ → ℕ → ℕ
 cleared L j byte = keepHigh (keptByClean L j) byte
 
--- kept are the bits before `end`
-abbrev pub outcomeTo : ℕ → Counted Held → ℕ → List ℕ → Outcome
-outcomeTo end g L buffer = maskTested g (wordsToMask (length buffer)) L buffer (maskClean (wordAt (g .held .meaning)) end buffer)
+-- of n bytes the first `to` are masked, by so many words: enough for the bits before `end`, and no words beyond the next
+pub record Enough (n end to words : ℕ) : Type 0 where
+  pub inside : to ≤ n
+  pub reached : to < n → end ≤ to * 8
+  pub masking : to ≤ words * 4
+  pub drawn : words ≤ to / 4 + 1
+
+-- so many words are drawn, and kept are the bits before `end`
+abbrev pub outcomeTo : ℕ → ℕ → Counted Held → ℕ → List ℕ → Outcome
+outcomeTo words end g L buffer = maskTested g words L buffer (maskClean (wordAt (g .held .meaning)) end buffer)

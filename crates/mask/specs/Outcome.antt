@@ -2,7 +2,7 @@
 use mathlib.Core.List.{List, [], _∷_}
 use Prim.Native.Nat.{ℕ}
 use lib.ListN.{length}
-use Rattle.standard.specs.Confidentiality.{maskCrate, maskClean, wordsToMask}
+use Rattle.standard.specs.Confidentiality.{maskCrate, maskClean, wordsToMaskClean, wordsToMaskCrate}
 use Rattle.standard.specs.Generator.{wordAt}
 use Rattle.standard.specs.Refusals.{accepted, badBits, badState, bitsTest, limitTest, spent, stateTest, tested}
 use Rattle.standard.specs.States.{Counted, Held, drawnOn, generatorFormed}
@@ -48,7 +48,11 @@ maskTested g words L buffer masked =
     tested (stateTest (generatorFormed g) ∷ bitsTest L buffer ∷ limitTest (g .count) words ∷ []) (refused g buffer) (drawn words g masked)
 
 abbrev pub crateOutcome : Counted Held → ℕ → List ℕ → Outcome
-crateOutcome g L buffer = maskTested g (wordsToMask (length buffer)) L buffer (maskCrate (wordAt (g .held .meaning)) L buffer)
+crateOutcome g L buffer = maskTested g (wordsToMaskCrate (length buffer)) L buffer (maskCrate (wordAt (g .held .meaning)) L buffer)
 
 abbrev pub cleanOutcome : Counted Held → ℕ → List ℕ → Outcome
-cleanOutcome g L buffer = maskTested g (wordsToMask (length buffer)) L buffer (maskClean (wordAt (g .held .meaning)) L buffer)
+cleanOutcome g L buffer = maskTested g (wordsToMaskClean L) L buffer (maskClean (wordAt (g .held .meaning)) L buffer)
+
+-- clean mode as it was before request 2026-02, with crate mode's words: theorems hold the buffer to it, and no call does
+abbrev pub cleanOutcomeBefore : Counted Held → ℕ → List ℕ → Outcome
+cleanOutcomeBefore g L buffer = maskTested g (wordsToMaskCrate (length buffer)) L buffer (maskClean (wordAt (g .held .meaning)) L buffer)

@@ -2,7 +2,7 @@
 ghost use mathlib.Core.Path.{_≡_};
 ghost use Prim.Native.Nat.{_≤_, _*_, _+_, _/_, _%_};
 ghost use lib.ListN.{length};
-ghost use Rattle.mask.specs.Inner.{zeroed, cleared, outcomeTo};
+ghost use Rattle.mask.specs.Inner.{Enough, cleared, outcomeTo, zeroed};
 ghost use Rattle.mask.specs.Outcome.{told, crateOutcome, cleanOutcome};
 ghost use Rattle.standard.specs.Confidentiality.{keepHigh};
 ghost use Rattle.standard.specs.Notation.{eachFrom};
@@ -59,10 +59,17 @@ fn keep_bits(buf: &mut [u8], q: usize, k: usize)
     }
 }
 
-// Both modes: they differ in how many high bits of byte floor(bits/8) are kept.
-fn mask(start: Generator, buf: &mut [u8], bits: usize, kept: usize) -> Masked
-    requires { ⌜ kept ≤ 8 ⌝ }
-    ensures { λ r. ⌜ told r (now (buf .exit)) ≡ outcomeTo (bits / 8 * 8 + kept) (countedOf start) bits (now (buf .entry)) ⌝ }
+// Both modes: they differ in how many bytes are masked and words drawn, and in how many high bits of byte floor(bits/8) are kept.
+fn mask(
+    start: Generator,
+    buf: &mut [u8],
+    bits: usize,
+    kept: usize,
+    to: usize,
+    drawn: usize,
+) -> Masked
+    requires { ⌜ kept ≤ 8 ⌝ ∗ ⌜ (bits ≤ length (now buf) * 8 → Enough (length (now buf)) (bits / 8 * 8 + kept) to drawn) ⌝ }
+    ensures { λ r. ⌜ told r (now (buf .exit)) ≡ outcomeTo drawn (bits / 8 * 8 + kept) (countedOf start) bits (now (buf .entry)) ⌝ }
 {
     if !zuc::is_formed(start) {
         return Masked {
@@ -70,15 +77,13 @@ fn mask(start: Generator, buf: &mut [u8], bits: usize, kept: usize) -> Masked
             state: start,
         };
     }
-    let n = buf.len();
-    if !words::bits_fit(bits, n) {
+    if !words::bits_fit(bits, buf.len()) {
         return Masked {
             answer: MaskAnswer::BadBits,
             state: start,
         };
     }
     let count = start.count;
-    let drawn = n / 4 + 1;
     if !words::has_left(count, drawn) {
         return Masked {
             answer: MaskAnswer::Spent,
@@ -87,7 +92,7 @@ fn mask(start: Generator, buf: &mut [u8], bits: usize, kept: usize) -> Masked
     }
     let t0 = s0();
     let t1 = s1();
-    let z = mask_all(&t0, &t1, start.z, buf);
+    let z = mask_all(&t0, &t1, start.z, &mut buf[..to], drawn);
     keep_bits(buf, bits / 8, kept);
     Masked {
         answer: MaskAnswer::Done(drawn),
@@ -98,20 +103,23 @@ fn mask(start: Generator, buf: &mut [u8], bits: usize, kept: usize) -> Masked
     }
 }
 
-// As the crate does: a byte whose first bit is the first past the length stays masked.
+// As the crate does: a byte whose first bit is the first past the length stays masked, and the words go by the buffer.
 pub fn mask_crate(state: Generator, buf: &mut [u8], bits: usize) -> Masked
     ensures { λ r. ⌜ told r (now (buf .exit)) ≡ crateOutcome (countedOf state) bits (now (buf .entry)) ⌝ }
 {
+    let n = buf.len();
     let part = bits % 8;
     if part == 0 {
-        return mask(state, buf, bits, 8);
+        return mask(state, buf, bits, 8, n, n / 4 + 1);
     }
-    mask(state, buf, bits, part)
+    mask(state, buf, bits, part, n, n / 4 + 1)
 }
 
-// Every bit at or past the length is zeroed.
+// Every bit at or past the length is zeroed, and the words go by the length: those bytes and words that the bits reach into.
 pub fn mask_clean(state: Generator, buf: &mut [u8], bits: usize) -> Masked
     ensures { λ r. ⌜ told r (now (buf .exit)) ≡ cleanOutcome (countedOf state) bits (now (buf .entry)) ⌝ }
 {
-    mask(state, buf, bits, bits % 8)
+    let to = bits / 8 + (bits % 8 + 7) / 8;
+    let drawn = bits / 32 + (bits % 32 + 31) / 32;
+    mask(state, buf, bits, bits % 8, to, drawn)
 }

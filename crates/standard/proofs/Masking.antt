@@ -1,8 +1,8 @@
 -- What masking does, for a reader: its bits are EEA3's OBS, the stray byte, and masking twice; over what a mode keeps.
 use mathlib.Core.Path.{_≡_, refl, sym, ap, ap₂, _∙_}
 use mathlib.Core.Logic.{⊎-elim}
-use mathlib.Core.List.{List}
-use Prim.Native.Nat.{ℕ, suc, _+_, _-_, _*_, _/_, _%_, _^_, _<_, _≤_}
+use mathlib.Core.List.{List, _++_}
+use Prim.Native.Nat.{ℕ, suc, _+_, _-_, _*_, _/_, _%_, _^_, _<_, _≤_, min}
 use native.Mathlib.Nat.{eq-zero-or-pos, zero-add, zero-div}
 use native.Mathlib.Omega.{arith}
 use lib.Bits.{xor-shr, xor-mod}
@@ -11,7 +11,7 @@ use lib.Pow.{shr-shr, field, mod-mod-pow}
 use Rattle.standard.specs.Notation.{_⊕_, eachFrom}
 use Rattle.standard.specs.Bits.{bitOf, bitAt, M, z, byteOf}
 use Rattle.standard.specs.Confidentiality.{OBS, masked, keepHigh, keptByCrate, keptByClean, maskedBuffer, maskCrate, maskClean}
-use Rattle.standard.proofs.Each.{length-each, getD-each, each-ext, each-each, each-set}
+use Rattle.standard.proofs.Each.{length-each, getD-each, each-append, each-ext, each-each, each-set}
 use Rattle.standard.proofs.Kept.{keep-all, kept-bit, lost-bit, keep-twice, crateEnd, end-le, crate-kept, kept-same, kept-stray}
 
 pub bit-xor : (n a b p : ℕ) → bitOf n (a ⊕ b) p ≡ bitOf n a p ⊕ bitOf n b p
@@ -86,6 +86,25 @@ unfolding maskedBuffer
 mask-ext kept kept′ words buffer e =
     each-ext (λ j byte. keepHigh (kept j) (masked words j byte)) (λ j byte. keepHigh (kept′ j) (masked words j byte)) 0 0 buffer
     (λ i h. ap (λ (k : ℕ). keepHigh k (masked words (0 + i) (getD buffer i 0))) (e (0 + i) (omega arith)))
+
+-- clean mode over two buffers, the first full and of whole words: as if each were masked by itself, the second by the words after the first's
+pub clean-append : (words : ℕ → ℕ) (L : ℕ) (a b : List ℕ) → length a % 4 ≡ 0
+    → maskClean words (length a * 8 + L) (a ++ b) ≡ maskClean words (length a * 8) a ++ maskClean (λ n. words (length a / 4 + n)) L b
+unfolding maskedBuffer masked keptByClean
+clean-append words L a b whole =
+    each-append (f words (length a * 8 + L)) 0 a b
+    ∙ ap₂ _++_
+    (each-ext (f words (length a * 8 + L)) (f words (length a * 8)) 0 0 a
+    (λ i h. ap (λ (k : ℕ). keepHigh k (masked words (0 + i) (getD a i 0))) (omega arith)))
+    (each-ext (f words (length a * 8 + L)) (f (λ n. words (length a / 4 + n)) L) (0 + length a) 0 b
+    (λ i h. at i (getD b i 0)))
+  where
+    f : (ℕ → ℕ) → ℕ → ℕ → ℕ → ℕ
+    f words L j byte = keepHigh (min 8 (L - j * 8)) (masked words j byte)
+
+    at : (i byte : ℕ) → f words (length a * 8 + L) (0 + length a + i) byte ≡ f (λ n. words (length a / 4 + n)) L (0 + i) byte
+    at i byte =
+        ap₂ (λ (k x : ℕ). keepHigh k (byte ⊕ x)) (omega arith) (ap₂ (λ (n j : ℕ). byteOf (words n) j) (omega arith) (omega arith))
 
 module _ (words : ℕ → ℕ) (L : ℕ) (buffer : List ℕ) where
   -- crate mode is clean mode at another bit length: at L + 8 where L ends on the edge of a byte, else at L

@@ -2,7 +2,7 @@
 use mathlib.Core.List.{List, [], _∷_, _++_}
 use Prim.Native.Nat.{ℕ, _+_, _-_, _*_, _/_, _%_, _^_, min}
 use lib.Dec.{ltb, eqb}
-use Rattle.standard.specs.Notation.{_⊕_, if_then_else_, eachFrom}
+use Rattle.standard.specs.Notation.{_⊕_, ceil, if_then_else_, eachFrom}
 use Rattle.standard.specs.Bits.{byteOf, bytesOf}
 
 -- 3.3 (initialisation): IV[0..3] = COUNT; IV[4] = BEARER || DIRECTION || 00; IV[5..7] = 0; IV[8..15] = IV[0..7]
@@ -45,6 +45,10 @@ maskCrate words L buffer = maskedBuffer (keptByCrate L) words buffer
 abbrev pub maskClean : (ℕ → ℕ) → ℕ → List ℕ → List ℕ
 maskClean words L buffer = maskedBuffer (keptByClean L) words buffer
 
--- Document 01: the words drawn over a buffer of n bytes, in both modes. (3.4, keystream generation, needs ⌈LENGTH/32⌉)
-abbrev pub wordsToMask : ℕ → ℕ
-wordsToMask n = n / 4 + 1
+-- Document 01: the words that crate mode draws over a buffer of n bytes, whatever the bit length
+abbrev pub wordsToMaskCrate : ℕ → ℕ
+wordsToMaskCrate n = n / 4 + 1
+
+-- 3.4 (keystream generation): ⌈LENGTH/32⌉ words; by request 2026-02 clean mode draws so many at a bit length L, whatever the buffer
+abbrev pub wordsToMaskClean : ℕ → ℕ
+wordsToMaskClean L = ceil L 32

@@ -1,6 +1,5 @@
 -- `mask_crate`: crate mode is clean mode at L, or at a byte more where L ends on the edge of a byte.
 use mathlib.Core.Path.{_∙_}
-use Prim.Native.Nat.{_+_, _*_, _/_, _%_}
 use native.Mathlib.Omega.{arith}
 use denote.Ref.{now}
 use borrow.Author.Needs.{needs}
@@ -15,16 +14,16 @@ returns c =
     let t = c .before .before .before .before in
     let a = t .before .before .args in
     c .before .before .mask .ensures
-    ∙ crate-mode (countedOf (a .state)) (a .bits) (now (a .buf)) (a .bits / 8 * 8 + 8) (omega (arith, edge-end (a .bits) (t .if1 .taken)))
+    ∙ crate-mode (countedOf (a .state)) (a .bits) (now (a .buf)) _ _ (omega arith) (omega (arith, edge-end (a .bits) (t .if1 .taken)))
 
 returns-2 : tie.Need-returns-2
 returns-2 c =
     let t = c .before .before .before .before in
     let a = t .before .before .args in
     c .before .before .mask2 .ensures
-    ∙ crate-mode (countedOf (a .state)) (a .bits) (now (a .buf)) (a .bits / 8 * 8 + a .bits % 8) (omega (arith, inner-end (a .bits) (t .if1 .left)))
+    ∙ crate-mode (countedOf (a .state)) (a .bits) (now (a .buf)) _ _ (omega arith) (omega (arith, inner-end (a .bits) (t .if1 .left)))
 
 pub mask-crate-spec : {M : Type 1} → statement M
 mask-crate-spec =
     tie.close
-    (tie.spec (λ c κs. search needs) (λ c. search needs) returns (λ c κs. search needs) (λ c. search needs) returns-2)
+    (tie.spec (λ c. search needs) (λ c κs. search needs) (λ c. search needs) returns (λ c. search needs) (λ c κs. search needs) (λ c. search needs) returns-2)

@@ -1,0 +1,4 @@
+pub mod Accepted
+pub mod EEA3
+pub mod Blocks
+pub mod Before
