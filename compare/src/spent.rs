@@ -7,8 +7,8 @@ use yegetmur::capi::{self, STATE_WORDS, TAG_WORDS};
 
 use crate::check::{held, same, same_list, tag_at_once, tag_in_steps, Verdict};
 use crate::drawn::drawn_by_tag;
-use crate::input::{Call, Input, Start, Tagger};
-use crate::plan::{keyed, MODES, STARTS, TAGGERS};
+use crate::input::{Call, Input, Mode, Start, Tagger};
+use crate::plan::{keyed, STARTS, TAGGERS};
 use crate::quiet::caught;
 use crate::report::Trial;
 use crate::ring::Ring;
@@ -85,14 +85,15 @@ fn too_many_words(start: Start, input: &Input) -> Verdict {
     let (mut state, mut out) = (before, vec![0; LIMIT + 1]);
     same("refusal of zuc_words", SPENT, capi::zuc_words(&mut state, &mut out))?;
     same_list("words after a refusal", &[0; 2], &[out[0], out[LIMIT]])?;
-    // the first length that draws LIMIT + 1 words
-    let mut data = vec![0; 4 * LIMIT];
-    for mode in MODES {
+    // one byte more than the words that are left mask: crate mode is refused for any bits, clean
+    // mode for these
+    let mut data = vec![0; 4 * LIMIT + 1];
+    for (mode, bits) in [(Mode::Crate, 8), (Mode::Clean, 32 * LIMIT + 1)] {
         let mut count = usize::MAX;
-        let refusal = port::mask(mode, &mut state, &mut data, 8, &mut count);
+        let refusal = port::mask(mode, &mut state, &mut data, bits, &mut count);
         same("refusal of a mask", SPENT, refusal)?;
         same("count of a refused mask", 0, count)?;
-        same_list("buffer of a refused mask", &[0; 2], &[data[0], data[4 * LIMIT - 1]])?;
+        same_list("buffer of a refused mask", &[0; 2], &[data[0], data[4 * LIMIT]])?;
     }
     same_list("state after refusals", &before, &state)
 }
