@@ -13,7 +13,7 @@ use crate::rules::{
     bits_refusal, first, limit_refusal, mask_words, start_refusal, BAD_STATE, LIMIT, SPENT,
 };
 use crate::users::{with_crate, with_port};
-use crate::{blocks, layout, model, original, port, turn};
+use crate::{blocks, hops, layout, model, original, port, turn};
 
 /// What differs.
 pub type Verdict = Result<(), String>;
@@ -154,13 +154,30 @@ fn mask(mode: Mode, start: Start, input: &Input) -> Verdict {
     };
     masked_from(mode, &ring, input)?;
     if mode == Mode::Clean {
-        return blocks::in_turn(&ring, input);
+        blocks::in_turn(&ring, input)?;
+        return hopped(start, ring, input);
     }
     let (mut expected, mut port) = (input.data.clone(), input.data.clone());
     let answer = caught(|| with_crate::mask(start, input, &mut expected));
     let other = caught(|| with_port::mask(start, input, &mut port));
     same_answer("mask by the package", answer.map(u128::from), other.map(u128::from))?;
     same_list("buffer by the package", &expected, &port)
+}
+
+/// A block masked under two and three keys, if it can be masked under one and is short.
+fn hopped(start: Start, first: Ring, input: &Input) -> Verdict {
+    let Input { data, bits, left, .. } = input;
+    if bits_refusal(*bits, data.len()) != 0 || left.is_some() || data.len() > MODEL_BYTES {
+        return Ok(());
+    }
+    let other = |change: u8| {
+        let key = input.key.iter().map(|byte| byte ^ change).collect();
+        started(start, &Input { key, ..input.clone() })
+    };
+    match (other(0x5a)?, other(0xa5)?) {
+        (Some(second), Some(third)) => hops::in_every_order(&[first, second, third], input),
+        _ => Ok(()),
+    }
 }
 
 /// A mask from a well-formed state: number, count, state, and every byte in and around

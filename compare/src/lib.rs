@@ -8,7 +8,7 @@
 //! The cells of the port's states stay put: [`ring`] models that, [`turn`] has one state
 //! in all its turns, and [`turns`] says which are tried. They count the words drawn, up to a
 //! limit: [`limits`] says which are tried about it, and [`spent`] reaches it. Clean masks in
-//! turn are held to one long mask by [`blocks`].
+//! turn are held to one long mask by [`blocks`], and masked once per hop by [`hops`].
 //!
 //! The guard is not the crate's: a [`walk::Walk`] is a list of calls on one table, held
 //! to a model of sets; [`walks`] says which are tried.
@@ -18,6 +18,7 @@ pub mod check;
 pub mod clock;
 pub mod drawn;
 pub mod hex;
+pub mod hops;
 pub mod input;
 pub mod layout;
 pub mod limits;

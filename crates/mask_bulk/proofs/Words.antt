@@ -4,7 +4,6 @@ use mathlib.Core.Path.{_≡_, sym, ap, ap₂, _∙_}
 use Prim.Native.Nat.{ℕ, _+_, _-_, _*_, _/_, _%_, _^_, _<_, _≤_}
 use native.Mathlib.Nat.{mod-eq-of-lt}
 use native.Mathlib.Omega.{arith}
-use lib.Bits.{xor-shr, xor-mod}
 use lib.ListN.{length, getD, take, drop, set, length-take}
 use Rattle.standard.specs.Confidentiality.{masked}
 use Rattle.standard.specs.Bits.{byteOf}
@@ -13,11 +12,7 @@ use Rattle.standard.specs.States.{Held, moved}
 use Rattle.standard.specs.Notation.{_⊕_, _‖₈_, eachFrom}
 use Rattle.standard.proofs.Each.{each-ext, doneFrom, from-lent}
 use Rattle.standard.proofs.Held.{moved-moved}
-
-byte-xor : (a b j : ℕ) → byteOf (a ⊕ b) j ≡ byteOf a j ⊕ byteOf b j
-unfolding byteOf
-byte-xor a b j =
-    ap (λ (x : ℕ). x % 2 ^ 8) (xor-shr a b (8 * (3 - j))) ∙ xor-mod (a / 2 ^ (8 * (3 - j))) (b / 2 ^ (8 * (3 - j))) 8
+use Rattle.standard.proofs.Twice.{byte-xor}
 
 -- the bytes of four bytes joined
 pub joined : (a b c d : ℕ) → a < 2 ^ 8 → b < 2 ^ 8 → c < 2 ^ 8 → d < 2 ^ 8

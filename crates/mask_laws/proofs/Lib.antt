@@ -2,3 +2,4 @@ pub mod Accepted
 pub mod EEA3
 pub mod Blocks
 pub mod Before
+pub mod Hops

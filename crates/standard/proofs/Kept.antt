@@ -11,7 +11,7 @@ use borrow.Author.Tests.{lt-ltb, le-ltb, eq-eqb, ne-eqb}
 use Rattle.standard.specs.Notation.{_⊕_, if_then_else_}
 use Rattle.standard.specs.Bits.{bitOf}
 use Rattle.standard.specs.Confidentiality.{keepHigh, keptByCrate, keptByClean}
-use Rattle.standard.proofs.Xor.{xor-twice-r}
+use Rattle.standard.proofs.Xor.{xor-assoc}
 use Rattle.standard.proofs.Each.{place}
 
 pub keep-all : (byte : ℕ) → keepHigh 8 byte ≡ byte
@@ -59,14 +59,15 @@ lost-bit k byte p h b =
     e : 8 - k ≡ suc (p - k) + (8 - suc p)
     e = omega arith
 
--- masked with m, the k high bits kept, and both once more
-pub keep-twice : (k byte m : ℕ) → keepHigh k (keepHigh k (byte ⊕ m) ⊕ m) ≡ keepHigh k byte
+-- masked with m, the k high bits kept, then with m′: as if masked with both
+pub keep-both : (k byte m m′ : ℕ) → keepHigh k (keepHigh k (byte ⊕ m) ⊕ m′) ≡ keepHigh k (byte ⊕ (m ⊕ m′))
 unfolding keepHigh
-keep-twice k byte m =
+keep-both k byte m m′ =
     ap (λ (x : ℕ). x * 2 ^ (8 - k))
-    (xor-shr ((byte ⊕ m) / 2 ^ (8 - k) * 2 ^ (8 - k)) m (8 - k)
-    ∙ ap (λ (x : ℕ). x ⊕ m / 2 ^ (8 - k)) (shl-shr ((byte ⊕ m) / 2 ^ (8 - k)) (8 - k) ∙ xor-shr byte m (8 - k))
-    ∙ xor-twice-r (byte / 2 ^ (8 - k)) (m / 2 ^ (8 - k)))
+    (xor-shr ((byte ⊕ m) / 2 ^ (8 - k) * 2 ^ (8 - k)) m′ (8 - k)
+    ∙ ap (λ (x : ℕ). x ⊕ m′ / 2 ^ (8 - k)) (shl-shr ((byte ⊕ m) / 2 ^ (8 - k)) (8 - k))
+    ∙ sym (xor-shr (byte ⊕ m) m′ (8 - k))
+    ∙ ap (λ (x : ℕ). x / 2 ^ (8 - k)) (xor-assoc byte m m′))
 
 -- clean mode at a bit length of q bytes and k bits: all of a byte before byte q, k bits of it, and nothing after
 pub clean-before : (q k j : ℕ) → j < q → keptByClean (q * 8 + k) j ≡ 8

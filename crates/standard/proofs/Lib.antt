@@ -2,6 +2,7 @@ pub mod Xor
 pub mod Window
 pub mod Each
 pub mod Kept
+pub mod Twice
 pub mod Masking
 pub mod Table
 pub mod Permutation

@@ -5,14 +5,15 @@ use mathlib.Core.List.{List, _++_}
 use Prim.Native.Nat.{ℕ, suc, _+_, _-_, _*_, _/_, _%_, _^_, _<_, _≤_, min}
 use native.Mathlib.Nat.{eq-zero-or-pos, zero-add, zero-div}
 use native.Mathlib.Omega.{arith}
-use lib.Bits.{xor-shr, xor-mod}
+use lib.Bits.{xor-mod, xor-shr}
 use lib.ListN.{length, getD, set, List·getD-eq-default}
 use lib.Pow.{shr-shr, field, mod-mod-pow}
 use Rattle.standard.specs.Notation.{_⊕_, eachFrom}
 use Rattle.standard.specs.Bits.{bitOf, bitAt, M, z, byteOf}
-use Rattle.standard.specs.Confidentiality.{OBS, masked, keepHigh, keptByCrate, keptByClean, maskedBuffer, maskCrate, maskClean}
+use Rattle.standard.specs.Confidentiality.{OBS, masked, keepHigh, keptByCrate, keptByClean, clearedPast, maskedBuffer, maskCrate, maskClean}
 use Rattle.standard.proofs.Each.{length-each, getD-each, each-append, each-ext, each-each, each-set}
-use Rattle.standard.proofs.Kept.{keep-all, kept-bit, lost-bit, keep-twice, crateEnd, end-le, crate-kept, kept-same, kept-stray}
+use Rattle.standard.proofs.Twice.{mask-twice}
+use Rattle.standard.proofs.Kept.{keep-all, kept-bit, lost-bit, crateEnd, end-le, crate-kept, kept-same, kept-stray}
 
 pub bit-xor : (n a b p : ℕ) → bitOf n (a ⊕ b) p ≡ bitOf n a p ⊕ bitOf n b p
 unfolding bitOf
@@ -56,7 +57,7 @@ module _ (kept words : ℕ → ℕ) (buffer : List ℕ) where
   unfolding maskedBuffer
   byte-at j h = getD-each (λ j byte. keepHigh (kept j) (masked words j byte)) 0 buffer j h ∙ rw zero-add refl
 
-  length-masked : length (maskedBuffer kept words buffer) ≡ length buffer
+  pub length-masked : length (maskedBuffer kept words buffer) ≡ length buffer
   unfolding maskedBuffer
   length-masked = length-each (λ j byte. keepHigh (kept j) (masked words j byte)) 0 buffer
 
@@ -67,17 +68,6 @@ module _ (kept words : ℕ → ℕ) (buffer : List ℕ) where
       ap (λ (x : ℕ). bitOf 8 x (i % 8)) (byte-at (i / 8) (omega arith))
       ∙ kept-bit (kept (i / 8)) (masked words (i / 8) (getD buffer (i / 8) 0)) (i % 8) k
       ∙ masked-bit words i (getD buffer (i / 8) 0)
-
-  -- masking serves encryption and decryption alike: done twice it leaves the bits that are kept as they came, and no others
-  pub mask-twice : maskedBuffer kept words (maskedBuffer kept words buffer) ≡ eachFrom (λ j. keepHigh (kept j)) 0 buffer
-  unfolding maskedBuffer masked
-  mask-twice =
-      each-each f f 0 buffer
-      ∙ each-ext (λ j byte. f j (f j byte)) (λ j. keepHigh (kept j)) 0 0 buffer
-      (λ i h. keep-twice (kept (0 + i)) (getD buffer i 0) (byteOf (words ((0 + i) / 4)) ((0 + i) % 4)))
-    where
-      f : ℕ → ℕ → ℕ
-      f j byte = keepHigh (kept j) (masked words j byte)
 
 -- the same bytes where the same bits are kept
 pub mask-ext : (kept kept′ words : ℕ → ℕ) (buffer : List ℕ) → ((j : ℕ) → j < length buffer → kept j ≡ kept′ j)
@@ -146,7 +136,7 @@ module _ (words : ℕ → ℕ) (L : ℕ) (buffer : List ℕ) where
       (rw (kept-stray L e) (sym (keep-all (masked words (L / 8) (getD buffer (L / 8) 0)))))
       (λ i n. ap (λ (k : ℕ). keepHigh k (masked words i (getD buffer i 0))) (sym (kept-same L i (λ d. n)))))
 
-  pub twice-clean : maskClean words L (maskClean words L buffer) ≡ eachFrom (λ j. keepHigh (keptByClean L j)) 0 buffer
+  pub twice-clean : maskClean words L (maskClean words L buffer) ≡ clearedPast L buffer
   twice-clean = mask-twice (keptByClean L) words buffer
 
   pub twice-crate : maskCrate words L (maskCrate words L buffer) ≡ eachFrom (λ j. keepHigh (keptByClean (crateEnd L) j)) 0 buffer

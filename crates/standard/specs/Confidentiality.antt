@@ -45,6 +45,10 @@ maskCrate words L buffer = maskedBuffer (keptByCrate L) words buffer
 abbrev pub maskClean : (ℕ → ℕ) → ℕ → List ℕ → List ℕ
 maskClean words L buffer = maskedBuffer (keptByClean L) words buffer
 
+-- Request 2026-10: the buffer with every bit at or past L cleared, and no bit masked
+abbrev pub clearedPast : ℕ → List ℕ → List ℕ
+clearedPast L buffer = eachFrom (λ j byte. keepHigh (keptByClean L j) byte) 0 buffer
+
 -- Document 01: the words that crate mode draws over a buffer of n bytes, whatever the bit length
 abbrev pub wordsToMaskCrate : ℕ → ℕ
 wordsToMaskCrate n = n / 4 + 1
