@@ -13,6 +13,8 @@ pub mod Sum
 pub mod Extra
 pub mod Linear
 pub mod Listed
+pub mod Parts
+pub mod Loads
 pub mod Tested
 pub mod Guard
 pub mod Promise
