@@ -1,0 +1,4 @@
+pub mod Standing
+pub mod Theorems
+pub mod Reached
+pub mod Called
