@@ -76,6 +76,15 @@ inner-updates {test} {w} {a} {a′} (array.more {part = part} {parts = parts} o 
     back : storedIn (o .array) ≡ i .state
     back = ap (λ (x : TagArray). storedIn (x .array)) told ∙ read held
 
+-- from a start whose accepted state an array holds
+pub updates-inside : {test : Stored → Bool} {w : ℕ} (begun : Outcome) → (begun .number ≡ 0 → Holds w (begun .state)) → (start : TagArray) → start ≡ tagArray begun
+    → start .number ≡ 0 → {parts : List (List ℕ)} {last : List ℕ} → ArrayUpdates test (start .array) parts last → Bytes (joined parts)
+    → Updates test (begun .state) parts (storedIn last)
+updates-inside {test} {w} begun held start told ok {parts} {last} run b =
+    let h : Holds w (begun .state) = held (ap (λ (x : TagArray). x .number) (sym told) ∙ ok) in
+    let back : storedIn (start .array) ≡ begun .state = ap (λ (x : TagArray). storedIn (x .array)) told ∙ read h in
+    subst (λ (x : Counted Stored). Updates test x parts (storedIn last)) back (inner-updates run b (subst (Holds w) (sym back) h))
+
 outer-updates : {test : Stored → Bool} {w : ℕ} {s s′ : Counted Stored} {parts : List (List ℕ)} → Updates test s parts s′ → Bytes (joined parts)
     → Holds w s → ArrayUpdates test (tagArrayOf s) parts (tagArrayOf s′)
 unfolding joined
@@ -101,9 +110,7 @@ module _ {Tag : Type 0} {test : Stored → Bool} {finishOutcome : Counted Stored
       L-is = r .L-is;
       started = fine;
       last = s;
-      updates =
-          subst (λ (x : Counted Stored). Updates test x (r .parts) s) back
-          (inner-updates (r .updates) (joined-bytes (r .parts) (r .tail) (r .message-is) (r .bytes)) (subst (Holds w) (sym back) (held fine)));
+      updates = updates-inside begun held start told (r .started) (r .updates) (joined-bytes (r .parts) (r .tail) (r .message-is) (r .bytes));
       end = inner s (r .tail) (r .l);
       closes = refl;
       accepted = sym (numbers s (r .tail) (r .l)) ∙ ap (λ (x : ClosingArray). x .number) (sym (r .closes)) ∙ r .accepted;
@@ -117,9 +124,6 @@ module _ {Tag : Type 0} {test : Stored → Bool} {finishOutcome : Counted Stored
 
       fine : begun .number ≡ 0
       fine = ap (λ (x : TagArray). x .number) (sym told) ∙ r .started
-
-      back : storedIn (start .array) ≡ begun .state
-      back = ap (λ (x : TagArray). storedIn (x .array)) told ∙ read (held fine)
 
   pub outside : {message : List ℕ} {L tag : ℕ} → Bytes message → (r : Tagged test inner innerNumber begun message L tag)
       → (a : ArrayTagged test finishOutcome numberIn (tagArray begun) message L tag) × ((a .parts ≡ r .parts) × (a .tail ≡ r .tail) × (a .l ≡ r .l))

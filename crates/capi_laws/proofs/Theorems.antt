@@ -42,7 +42,7 @@ module _ (key iv : List ℕ) (hk : Bytes key) (hv : Bytes iv) where
   abbrev begun-128 : Outcome
   begun-128 = startOutcome-128 key iv
 
-  held-128 : begun-128 .number ≡ 0 → Holds 4 (begun-128 .state)
+  pub held-128 : begun-128 .number ≡ 0 → Holds 4 (begun-128 .state)
   held-128 e =
       let loaded : State = load₁₂₈ key iv in
       record {
@@ -150,7 +150,7 @@ module _ (w : ℕ) (key iv : List ℕ) (hk : Bytes key) (hv : Bytes iv) where
   abbrev loaded-256 : State
   loaded-256 = load₂₅₆ (rowOf w) key iv
 
-  held-256 : begun-256 .number ≡ 0 → Holds w (begun-256 .state)
+  pub held-256 : begun-256 .number ≡ 0 → Holds w (begun-256 .state)
   held-256 e =
       let is = start-256 w key iv begun-256 refl e in
       record {
