@@ -1,4 +1,4 @@
-// Document 01's number of each answer, and the word, count or tag that it holds: zeros, where it is a refusal.
+// The standard's number of each answer, and the word, count or tag that it holds: zeros, where it is a refusal.
 ghost use mathlib.Core.Path.{_≡_};
 ghost use Rattle.guard.specs.Outcome.{acceptNumber, rekeyNumber};
 ghost use Rattle.keystream.specs.Draws.{drawNumber, drawWord, fillNumber};
@@ -30,6 +30,8 @@ pub const BAD_STATE: u32 = 4;
 
 pub const BAD_BITS: u32 = 5;
 
+pub const BAD_FIELD: u32 = 8;
+
 pub const SPENT: u32 = 16;
 
 pub const BAD_REUSE: u32 = 11;
@@ -46,6 +48,7 @@ pub fn start_number(answer: StartAnswer) -> u32
         StartAnswer::BadWidth => BAD_WIDTH,
         StartAnswer::BadKey => BAD_KEY,
         StartAnswer::BadIv => BAD_IV,
+        StartAnswer::BadField => BAD_FIELD,
     }
 }
 
@@ -164,6 +167,7 @@ pub fn once_number_128(answer: Once128) -> u32
         Once128::Tag(_) => ACCEPTED,
         Once128::BadKey => BAD_KEY,
         Once128::BadIv => BAD_IV,
+        Once128::BadField => BAD_FIELD,
         Once128::BadBits => BAD_BITS,
         Once128::Spent => SPENT,
     }
@@ -176,6 +180,7 @@ pub fn once_word(answer: Once128) -> u32
         Once128::Tag(tag) => tag,
         Once128::BadKey => 0,
         Once128::BadIv => 0,
+        Once128::BadField => 0,
         Once128::BadBits => 0,
         Once128::Spent => 0,
     }

@@ -10,6 +10,7 @@ use Rattle.standard.specs.Refusals.{accepted}
 use Rattle.zuc.specs.Reading.{countedOf}
 use Rattle.keystream.proofs.Tight.{in-place-post}
 use Rattle.keystream.proofs.eea3.new.Reads as eea3-new
+use Rattle.keystream.proofs.eea3.new_strict.Reads as eea3-new-strict
 use Rattle.keystream.proofs.fill.Reads as fill
 use Rattle.keystream.proofs.generate.Reads as generate
 use Rattle.keystream.proofs.zuc128.new.Reads as zuc128-new
@@ -17,7 +18,7 @@ use Rattle.keystream.proofs.zuc256.new.Reads as zuc256-new
 use Rattle.keystream.proofs.zuc256.new_with_d.Reads as zuc256-new-with-d
 use Rattle.keystream.specs.Draws.{drawNumber, drawTold, drawWord, fillNumber, fillTold}
 use Rattle.keystream.specs.Runs.{Draws, many, one}
-use Rattle.keystream.specs.Starts.{start-EEA3, startTag₂₅₆, startTold, start₁₂₈, start₂₅₆}
+use Rattle.keystream.specs.Starts.{start-EEA3, startTag₂₅₆, startTold, start₁₂₈, start₂₅₆, strictStart-EEA3}
 
 -- a start
 pub called-zuc128-new : Says zuc128-new.Post (λ κs a r s. startTold r ≡ start₁₂₈ (now (a .0)) (now (a .1 .0)))
@@ -31,6 +32,9 @@ called-zuc256-new-with-d κs a r s p = p
 
 pub called-eea3-new : Says eea3-new.Post (λ κs a r s. startTold r ≡ start-EEA3 (a .0) (a .1 .0) (a .1 .1 .0) (now (a .1 .1 .1 .0)))
 called-eea3-new κs a r s p = p
+
+pub called-eea3-new-strict : Says eea3-new-strict.Post (λ κs a r s. startTold r ≡ strictStart-EEA3 (a .0) (a .1 .0) (a .1 .1 .0) (now (a .1 .1 .1 .0)))
+called-eea3-new-strict κs a r s p = p
 
 -- a run that begins with a call, by the run after it
 module _ {words : List ℕ} {g′ : Counted Held} where

@@ -1,4 +1,5 @@
 mod Starting
 pub mod Tight
 pub mod Words
+pub mod Strict
 pub mod Called

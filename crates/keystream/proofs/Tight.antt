@@ -15,8 +15,9 @@ use Rattle.zuc.proofs.Turning.{counted-once}
 use Rattle.zuc.specs.declared.Generator.{Generator}
 use Rattle.standard.proofs.Promise.{AsksNothing, Tight}
 use Rattle.standard.specs.Notation.{if_then_else_}
-use Rattle.standard.specs.Refusals.{accepted, badKey, badState, badWidth}
+use Rattle.standard.specs.Refusals.{accepted, badIV, badKey, badState, badWidth}
 use Rattle.keystream.proofs.eea3.new.Reads as eea3-new
+use Rattle.keystream.proofs.eea3.new_strict.Reads as eea3-new-strict
 use Rattle.keystream.proofs.fill.Reads as fill
 use Rattle.keystream.proofs.generate.Reads as generate
 use Rattle.keystream.proofs.generate_in_place as in-place
@@ -31,13 +32,18 @@ use Rattle.keystream.specs.declared.FillAnswer.the-variants as fill-answ
 use Rattle.keystream.specs.declared.Filling.{Filling}
 use Rattle.keystream.specs.declared.Start.{Start}
 use Rattle.keystream.specs.declared.StartAnswer.{StartAnswer}
-use Rattle.keystream.specs.declared.StartAnswer.the-variants.{Started, BadWidth, BadKey, BadIv}
+use Rattle.keystream.specs.declared.StartAnswer.the-variants.{Started, BadWidth, BadKey, BadIv, BadField}
 use Rattle.keystream.specs.Draws.{drawNumber, drawTold, drawWord, fillNumber, fillTold}
 use Rattle.keystream.specs.Starts.{startNumber, startTold}
 
 -- the answer that a number stands for
 startAnswer : ℕ → StartAnswer
-startAnswer n = if eqb n accepted then Started else if eqb n badWidth then BadWidth else if eqb n badKey then BadKey else BadIv
+startAnswer n =
+    if eqb n accepted then Started
+    else if eqb n badWidth then BadWidth
+    else if eqb n badKey then BadKey
+    else if eqb n badIV then BadIv
+    else BadField
 
 start-back : (a : StartAnswer) → startAnswer (startNumber a) ≡ a
 unfolding startAnswer
@@ -45,6 +51,7 @@ start-back Started = refl
 start-back BadWidth = refl
 start-back BadKey = refl
 start-back BadIv = refl
+start-back BadField = refl
 
 drawAnswer : ℕ → ℕ → DrawAnswer
 drawAnswer n w = if eqb n accepted then draw-answer.Word w else if eqb n badState then draw-answer.BadState else draw-answer.Spent
@@ -103,6 +110,12 @@ tight-eea3-new κs a r r′ s s′ p q = start-tight r r′ (p ∙ sym q)
 
 pub asks-nothing-eea3-new : AsksNothing eea3-new.Pre
 asks-nothing-eea3-new κs a = tt
+
+pub tight-eea3-new-strict : Tight eea3-new-strict.Post (λ κs r s. r)
+tight-eea3-new-strict κs a r r′ s s′ p q = start-tight r r′ (p ∙ sym q)
+
+pub asks-nothing-eea3-new-strict : AsksNothing eea3-new-strict.Pre
+asks-nothing-eea3-new-strict κs a = tt
 
 -- draws
 pub tight-generate : Tight generate.Post (λ κs r s. r)

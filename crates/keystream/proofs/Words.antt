@@ -9,11 +9,11 @@ use native.Mathlib.Omega.{arith}
 use borrow.Author.Tests.{le-leb, lt-leb}
 use lib.Dec.{lit<}
 use lib.ListN.{length, length-append}
-use Rattle.standard.specs.Confidentiality.{IV-EEA3}
+use Rattle.standard.specs.Confidentiality.{IV-EEA3, bytesIV-EEA3}
 use Rattle.standard.specs.Generator.{State, after, keystream, started, word, wordAt}
 use Rattle.standard.specs.Loading.{load₁₂₈, load₂₅₆, rowOf}
 use Rattle.standard.specs.Notation.{listed}
-use Rattle.standard.specs.Refusals.{Test, accepted, ivTest, keyTest, limitTest, spent, stateTest, tested, widthTest}
+use Rattle.standard.specs.Refusals.{Test, accepted, fieldTest, ivTest, keyTest, limitTest, spent, stateTest, tested, widthTest}
 use Rattle.standard.specs.States.{Counted, Held, drawnOn, fromStart, fromZero, generatorFormed, limit, moved}
 use Rattle.standard.proofs.Cells.{Cells}
 use Rattle.standard.proofs.Generator.{sound-started, stream-is}
@@ -22,7 +22,7 @@ use Rattle.standard.proofs.Listed.{length-listed, listed-append, listed-on}
 use Rattle.standard.proofs.Tested.{Numbered, accepted-is, passed}
 use Rattle.keystream.specs.Draws.{DrawOutcome, FillOutcome, drawOutcome, fillOutcome, refusedDraw, refusedFill}
 use Rattle.keystream.specs.Runs.{Draws, many, none, one}
-use Rattle.keystream.specs.Starts.{StartOutcome, acceptedStart, refusedStart, start-EEA3, startTag₂₅₆, start₁₂₈, start₂₅₆}
+use Rattle.keystream.specs.Starts.{StartOutcome, acceptedStart, refusedStart, start-EEA3, startTag₂₅₆, start₁₂₈, start₂₅₆, strictStart-EEA3}
 
 -- an accepted draw and an accepted fill are the answers of their definitions
 drew : (g : Counted Held) (o : DrawOutcome) → o ≡ drawOutcome g → o .number ≡ accepted
@@ -97,6 +97,12 @@ module _ (start : StartOutcome) (ok : start .number ≡ accepted) where
   unfolding start-EEA3
   at-rest-eea3 count bearer direction key told =
       started-is (keyTest 16 key ∷ []) (lit< tt, tt) (load₁₂₈ key (IV-EEA3 count bearer direction)) start told ok
+
+  pub at-rest-eea3-strict : (count bearer direction : ℕ) (key : List ℕ) → start ≡ strictStart-EEA3 count bearer direction key
+      → start .state ≡ fromStart (fromZero (started (load₁₂₈ key (bytesIV-EEA3 count bearer direction))))
+  unfolding strictStart-EEA3
+  at-rest-eea3-strict count bearer direction key told =
+      started-is (keyTest 16 key ∷ fieldTest bearer direction ∷ []) (lit< tt, (lit< tt, tt)) (load₁₂₈ key (bytesIV-EEA3 count bearer direction)) start told ok
 
   pub at-rest-zuc256 : (d key iv : List ℕ) → start ≡ start₂₅₆ d key iv → start .state ≡ fromStart (fromZero (started (load₂₅₆ d key iv)))
   unfolding start₂₅₆

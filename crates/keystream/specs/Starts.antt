@@ -3,11 +3,11 @@ use mathlib.Core.List.{List, [], _∷_}
 use Prim.Native.Nat.{ℕ}
 use Rattle.keystream.specs.declared.Start.{Start}
 use Rattle.keystream.specs.declared.StartAnswer.{StartAnswer}
-use Rattle.keystream.specs.declared.StartAnswer.the-variants.{Started, BadWidth, BadKey, BadIv}
-use Rattle.standard.specs.Confidentiality.{IV-EEA3}
+use Rattle.keystream.specs.declared.StartAnswer.the-variants.{Started, BadWidth, BadKey, BadIv, BadField}
+use Rattle.standard.specs.Confidentiality.{IV-EEA3, bytesIV-EEA3}
 use Rattle.standard.specs.Generator.{State, started}
 use Rattle.standard.specs.Loading.{load₁₂₈, load₂₅₆, rowOf}
-use Rattle.standard.specs.Refusals.{accepted, badIV, badKey, badWidth, ivTest, keyTest, tested, widthTest}
+use Rattle.standard.specs.Refusals.{accepted, badField, badIV, badKey, badWidth, fieldTest, ivTest, keyTest, tested, widthTest}
 use Rattle.standard.specs.States.{Counted, Held, fromStart, fromZero, zeros}
 use Rattle.zuc.specs.Reading.{countedOf}
 
@@ -17,6 +17,7 @@ startNumber Started = accepted
 startNumber BadWidth = badWidth
 startNumber BadKey = badKey
 startNumber BadIv = badIV
+startNumber BadField = badField
 
 pub record StartOutcome : Type 0 where
   pub number : ℕ
@@ -37,6 +38,11 @@ start₁₂₈ key iv = tested (keyTest 16 key ∷ ivTest 16 iv ∷ []) refusedS
 
 unfoldable pub start-EEA3 : ℕ → ℕ → ℕ → List ℕ → StartOutcome
 start-EEA3 count bearer direction key = tested (keyTest 16 key ∷ []) refusedStart (acceptedStart (load₁₂₈ key (IV-EEA3 count bearer direction)))
+
+-- request 2026-04: bearer and direction as given, in the document's IV
+unfoldable pub strictStart-EEA3 : ℕ → ℕ → ℕ → List ℕ → StartOutcome
+strictStart-EEA3 count bearer direction key =
+    tested (keyTest 16 key ∷ fieldTest bearer direction ∷ []) refusedStart (acceptedStart (load₁₂₈ key (bytesIV-EEA3 count bearer direction)))
 
 -- ZUC-256, with a row of constants d; and of a tag of a width, with that width's row
 unfoldable pub start₂₅₆ : List ℕ → List ℕ → List ℕ → StartOutcome

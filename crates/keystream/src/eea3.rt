@@ -1,10 +1,13 @@
-// 128-EEA3: the IV and the start.
+// 128-EEA3: the IV, the start, and its strict form.
 ghost use mathlib.Core.Path.{_≡_};
-ghost use Rattle.keystream.specs.Starts.{startTold, start-EEA3};
+ghost use Rattle.keystream.specs.Starts.{startTold, start-EEA3, strictStart-EEA3};
 ghost use Rattle.standard.specs.Confidentiality.{IV-EEA3};
 use super::Start;
+use super::StartAnswer;
+use super::refused;
 use super::zuc128;
 use words::byte_of;
+use words::fields_fit;
 
 // The IV. A bearer keeps its low 5 bits, a direction its low bit.
 fn iv(count: u32, bearer: u8, direction: u8) -> [u8; 16]
@@ -24,4 +27,17 @@ pub fn new(count: u32, bearer: u8, direction: u8, key: &[u8]) -> Start
 {
     let v = iv(count, bearer, direction);
     zuc128::new(key, &v)
+}
+
+// The same of a bearer and a direction that are taken as given: BadField, after BadKey, for a bearer above 31 or a direction above 1.
+pub fn new_strict(count: u32, bearer: u8, direction: u8, key: &[u8]) -> Start
+    ensures { λ r. ⌜ startTold r ≡ strictStart-EEA3 count bearer direction (now (key .entry)) ⌝ }
+{
+    if key.len() != 16 {
+        return refused(StartAnswer::BadKey);
+    }
+    if !fields_fit(bearer, direction) {
+        return refused(StartAnswer::BadField);
+    }
+    new(count, bearer, direction, key)
 }

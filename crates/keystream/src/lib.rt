@@ -22,6 +22,7 @@ pub enum StartAnswer {
     BadWidth,
     BadKey,
     BadIv,
+    BadField,
 }
 
 // A start: its answer, and the generator, of zeros where it was refused.

@@ -8,11 +8,11 @@ use lib.Dec.{eqb, lit<}
 use Rattle.standard.specs.Generator.{State}
 use Rattle.standard.specs.Loading.{d-tag₁₂₈, d-tag₃₂, d-tag₆₄, load₁₂₈, load₂₅₆, rowOf}
 use Rattle.standard.specs.Notation.{if_then_else_}
-use Rattle.standard.specs.Refusals.{Test, badIV, badKey, badWidth, ivTest, keyTest, tested, widthTest}
+use Rattle.standard.specs.Refusals.{Test, accepted, badField, badIV, badKey, badWidth, ivTest, keyTest, tested, widthTest}
 use Rattle.standard.proofs.Cells.{Cells}
 use Rattle.standard.proofs.Generator.{sound-started}
 use Rattle.standard.proofs.Held.{Ready}
-use Rattle.standard.proofs.Tested.{Numbered, accepted-is, accepted-passed}
+use Rattle.standard.proofs.Tested.{Numbered, accepted-is, accepted-passed, never-told}
 use Rattle.keystream.specs.Starts.{StartOutcome, acceptedStart, refusedStart, startTag₂₅₆, start₁₂₈}
 use Rattle.zuc_loading.specs.InnerRows.{Row}
 use Rattle.zuc_loading.proofs.Loaded.{Bytes, cells-128, cells-256}
@@ -55,12 +55,16 @@ module _ (w : ℕ) (k iv : List ℕ) where
       (lit< tt, (lit< tt, (lit< tt, tt))) e
       .0)
 
--- ZUC-128 and EIA3 are never refused for a width
+-- ZUC-128 and EIA3 are never refused for a width, and ZUC-256 never for a field
 pub no-width-128 : (k iv : List ℕ) → start₁₂₈ k iv .number ≡ badWidth → ⊥
-unfolding start₁₂₈ tested
-no-width-128 k iv = by (keyTest 16 k .passes) (ivTest 16 iv .passes)
-  where
-    by : (a b : Bool) → (if a then (if b then acceptedStart (load₁₂₈ k iv) else refusedStart badIV) else refusedStart badKey) .number ≡ badWidth → ⊥
-    by true true e = omega arith
-    by true false e = omega arith
-    by false b e = omega arith
+unfolding start₁₂₈
+no-width-128 k iv =
+    never-told (λ (o : StartOutcome). o .number) refusedStart (λ n. refl) (acceptedStart (load₁₂₈ k iv)) badWidth (λ (e : accepted ≡ badWidth). omega arith)
+    (keyTest 16 k ∷ ivTest 16 iv ∷ []) (λ (e : badKey ≡ badWidth). omega arith, (λ (e : badIV ≡ badWidth). omega arith, tt))
+
+pub no-field-256 : (w : ℕ) (k iv : List ℕ) → startTag₂₅₆ w k iv .number ≡ badField → ⊥
+unfolding startTag₂₅₆
+no-field-256 w k iv =
+    never-told (λ (o : StartOutcome). o .number) refusedStart (λ n. refl) (acceptedStart (load₂₅₆ (rowOf w) k iv)) badField (λ (e : accepted ≡ badField). omega arith)
+    (tests-256 w k iv)
+    (λ (e : badWidth ≡ badField). omega arith, (λ (e : badKey ≡ badField). omega arith, (λ (e : badIV ≡ badField). omega arith, tt)))

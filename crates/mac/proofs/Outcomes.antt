@@ -12,7 +12,7 @@ use Rattle.standard.specs.Generator.{State, keystream, started}
 use Rattle.standard.specs.Integrity.{IV-EIA3, drawnAfter-ZUC256, drawnByTag-EIA3, drawnByTag-ZUC256, tag-EIA3, tag-ZUC256}
 use Rattle.standard.specs.Loading.{load₁₂₈, load₂₅₆, rowOf}
 use Rattle.standard.specs.Notation.{_⟨_⟩}
-use Rattle.standard.specs.Refusals.{badBits, badKey, badState, badWidth, bitsTest, ivTest, keyTest, limitTest, spent, tested, widthTest}
+use Rattle.standard.specs.Refusals.{badBits, badField, badKey, badState, badWidth, bitsTest, ivTest, keyTest, limitTest, spent, tested, widthTest}
 use Rattle.standard.specs.States.{Counted, Stored, formed, formed-128, fromStart, fromZero, limit, tagFormed, zeroStored}
 use Rattle.standard.proofs.Generator.{stream-is}
 use Rattle.standard.proofs.Table.{and-left, and-right}
@@ -22,7 +22,7 @@ use mathlib.Core.Logic.{⊎-elim}
 use types.Run.{OneOf}
 use Rattle.keystream.proofs.StartAnswer.{the-type}
 use Rattle.keystream.specs.declared.StartAnswer.{StartAnswer}
-use Rattle.keystream.specs.declared.StartAnswer.the-variants.{Started, BadWidth, BadKey, BadIv}
+use Rattle.keystream.specs.declared.StartAnswer.the-variants.{Started, BadWidth, BadKey, BadIv, BadField}
 use Rattle.keystream.specs.Starts.{StartOutcome, acceptedStart, refusedStart, startNumber, startTag₂₅₆, start₁₂₈}
 use Rattle.mac_registers.specs.Stored.{packed, tagWords}
 use Rattle.mac_registers.specs.Inner.{Holds, Width}
@@ -34,13 +34,17 @@ use Rattle.mac.specs.Inner.{begun-128, begun-256, once-from-128, once-fr
 
 -- an answer that a `match` found to be another than `Started`
 abbrev Refused : StartAnswer → Type 0
-Refused a = OneOf (1 ∷ 2 ∷ 3 ∷ []) (tagOf the-type a)
+Refused a = OneOf (1 ∷ 2 ∷ 3 ∷ 4 ∷ []) (tagOf the-type a)
 
 above : (a : StartAnswer) → Refused a → (k : ℕ) × (startNumber a ≡ suc k)
-above Started h = absurd (⊎-elim (λ (e : 0 ≡ 1). omega arith) (λ g. ⊎-elim (λ (e : 0 ≡ 2). omega arith) (λ (e : 0 ≡ 3). omega arith) g) h)
+above Started h =
+    absurd
+    (⊎-elim (λ (e : 0 ≡ 1). omega arith)
+    (λ g. ⊎-elim (λ (e : 0 ≡ 2). omega arith) (λ f. ⊎-elim (λ (e : 0 ≡ 3). omega arith) (λ (e : 0 ≡ 4). omega arith) f) g) h)
 above BadWidth h = (0, refl)
 above BadKey h = (1, refl)
 above BadIv h = (2, refl)
+above BadField h = (7, refl)
 
 -- a start, by its answer
 module _ (o : StartOutcome) (r : Counted Stored) where
@@ -56,12 +60,20 @@ module _ (o : StartOutcome) (r : Counted Stored) where
       let k = above a h in
       rw (e, k .1, ne-eqb (suc (k .0)) 0 (λ q. omega arith)) (ap (λ (x : Counted Stored). record { number = suc (k .0); state = x }) f)
 
--- an answer of ZUC-128 or EIA3 that is neither `Started` nor `BadIv`
+-- an answer that is none of those with arms of their own, and not of a number that its call never gives: of ZUC-128 or EIA3, and of ZUC-256
 pub key-refused : (a : StartAnswer) → OneOf (1 ∷ 2 ∷ []) (tagOf the-type a) → (startNumber a ≡ badWidth → ⊥) → startNumber a ≡ badKey
 key-refused Started h w = absurd (⊎-elim (λ (e : 0 ≡ 1). omega arith) (λ (e : 0 ≡ 2). omega arith) h)
 key-refused BadWidth h w = absurd (w refl)
 key-refused BadKey h w = refl
 key-refused BadIv h w = absurd (⊎-elim (λ (e : 3 ≡ 1). omega arith) (λ (e : 3 ≡ 2). omega arith) h)
+key-refused BadField h w = absurd (⊎-elim (λ (e : 4 ≡ 1). omega arith) (λ (e : 4 ≡ 2). omega arith) h)
+
+pub key-refused-256 : (a : StartAnswer) → OneOf (2 ∷ 4 ∷ []) (tagOf the-type a) → (startNumber a ≡ badField → ⊥) → startNumber a ≡ badKey
+key-refused-256 Started h f = absurd (⊎-elim (λ (e : 0 ≡ 2). omega arith) (λ (e : 0 ≡ 4). omega arith) h)
+key-refused-256 BadWidth h f = absurd (⊎-elim (λ (e : 1 ≡ 2). omega arith) (λ (e : 1 ≡ 4). omega arith) h)
+key-refused-256 BadKey h f = refl
+key-refused-256 BadIv h f = absurd (⊎-elim (λ (e : 3 ≡ 2). omega arith) (λ (e : 3 ≡ 4). omega arith) h)
+key-refused-256 BadField h f = absurd (f refl)
 
 -- a closing, by its tests
 module _ {Tag : Type 0} (none : Tag) (ok : Bool) (s : Counted Stored) (words : ℕ) (tail : List ℕ) (l : ℕ) (tag : Tag) where

@@ -6,7 +6,7 @@ use Prim.Native.Nat.{ℕ}
 use lib.Dec.{eqb}
 use Rattle.standard.proofs.Promise.{AsksNothing, Tight}
 use Rattle.standard.specs.Notation.{_⟨_⟩, if_then_else_}
-use Rattle.standard.specs.Refusals.{accepted, badBits, badIV, badKey, badState, badWidth}
+use Rattle.standard.specs.Refusals.{accepted, badBits, badField, badIV, badKey, badState, badWidth}
 use Rattle.zuc.specs.declared.Generator.{Generator}
 use Rattle.zuc.specs.declared.Zuc.{Zuc}
 use Rattle.zuc.proofs.Turning.{read-once}
@@ -19,6 +19,7 @@ use Rattle.standard.specs.States.{Stored}
 use Rattle.mac_registers.specs.Stored.{storedOf}
 use Rattle.mac.proofs.zuc128.new.Reads as zuc128-new
 use Rattle.mac.proofs.eia3.new.Reads as eia3-new
+use Rattle.mac.proofs.eia3.new_strict.Reads as eia3-new-strict
 use Rattle.mac.proofs.zuc256.new.Reads as zuc256-new
 use Rattle.mac.proofs.zuc128.update.Reads as zuc128-update
 use Rattle.mac.proofs.zuc256.update.Reads as zuc256-update
@@ -26,6 +27,7 @@ use Rattle.mac.proofs.zuc128.finish.Reads as zuc128-finish
 use Rattle.mac.proofs.zuc256.finish.Reads as zuc256-finish
 use Rattle.mac.proofs.zuc128.compute.Reads as zuc128-compute
 use Rattle.mac.proofs.eia3.compute.Reads as eia3-compute
+use Rattle.mac.proofs.eia3.compute_strict.Reads as eia3-compute-strict
 use Rattle.mac.proofs.zuc256.compute.Reads as zuc256-compute
 use Rattle.mac.specs.declared.Finish128.{Finish128}
 use Rattle.mac.specs.declared.Finish256.{Finish256}
@@ -105,6 +107,7 @@ onceAnswer-128 n x =
     if eqb n accepted then once-128.Tag x
     else if eqb n badKey then once-128.BadKey
     else if eqb n badIV then once-128.BadIv
+    else if eqb n badField then once-128.BadField
     else if eqb n badBits then once-128.BadBits
     else once-128.Spent
 
@@ -113,6 +116,7 @@ unfolding onceAnswer-128
 once-back-128 (once-128.Tag x) = refl
 once-back-128 once-128.BadKey = refl
 once-back-128 once-128.BadIv = refl
+once-back-128 once-128.BadField = refl
 once-back-128 once-128.BadBits = refl
 once-back-128 once-128.Spent = refl
 
@@ -196,6 +200,12 @@ tight-eia3-new κs a r r′ s s′ p q = start-128 r r′ (p ∙ sym q)
 pub asks-nothing-eia3-new : AsksNothing eia3-new.Pre
 asks-nothing-eia3-new κs a = tt
 
+pub tight-eia3-new-strict : Tight eia3-new-strict.Post (λ κs r s. r)
+tight-eia3-new-strict κs a r r′ s s′ p q = start-128 r r′ (p ∙ sym q)
+
+pub asks-nothing-eia3-new-strict : AsksNothing eia3-new-strict.Pre
+asks-nothing-eia3-new-strict κs a = tt
+
 pub tight-zuc256-new : Tight zuc256-new.Post (λ κs r s. r)
 tight-zuc256-new κs a r r′ s s′ p q = start-256 r r′ (p ∙ sym q)
 
@@ -240,6 +250,12 @@ tight-eia3-compute κs a r r′ s s′ p q = once-tight-128 r r′ (p ∙ sym q)
 
 pub asks-nothing-eia3-compute : AsksNothing eia3-compute.Pre
 asks-nothing-eia3-compute κs a = tt
+
+pub tight-eia3-compute-strict : Tight eia3-compute-strict.Post (λ κs r s. r)
+tight-eia3-compute-strict κs a r r′ s s′ p q = once-tight-128 r r′ (p ∙ sym q)
+
+pub asks-nothing-eia3-compute-strict : AsksNothing eia3-compute-strict.Pre
+asks-nothing-eia3-compute-strict κs a = tt
 
 pub tight-zuc256-compute : Tight zuc256-compute.Post (λ κs r s. r)
 tight-zuc256-compute κs a r r′ s s′ p q = once-tight-256 r r′ (p ∙ sym q)

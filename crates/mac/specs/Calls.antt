@@ -5,9 +5,9 @@ use mathlib.Core.List.{List, [], _∷_}
 use Prim.Native.Nat.{ℕ, _+_, _*_}
 use lib.ListN.{length}
 use Rattle.standard.specs.Generator.{State, keystream, started}
-use Rattle.standard.specs.Integrity.{IV-EIA3, drawnAfter-EIA3, drawnAfter-ZUC256, drawnByTag-EIA3, drawnByTag-ZUC256, tag-EIA3, tag-ZUC256, wordsToClose-EIA3, wordsToClose-ZUC256, wordsToUpdate}
+use Rattle.standard.specs.Integrity.{IV-EIA3, bytesIV-EIA3, drawnAfter-EIA3, drawnAfter-ZUC256, drawnByTag-EIA3, drawnByTag-ZUC256, tag-EIA3, tag-ZUC256, wordsToClose-EIA3, wordsToClose-ZUC256, wordsToUpdate}
 use Rattle.standard.specs.Loading.{load₁₂₈, load₂₅₆, rowOf}
-use Rattle.standard.specs.Refusals.{accepted, badBits, badIV, badKey, badState, badWidth, bitsTest, ivTest, keyTest, limitTest, spent, stateTest, tested, widthTest}
+use Rattle.standard.specs.Refusals.{accepted, badBits, badField, badIV, badKey, badState, badWidth, bitsTest, fieldTest, ivTest, keyTest, limitTest, spent, stateTest, tested, widthTest}
 use Rattle.standard.specs.States.{Counted, Stored, formed, formed-128, fromStart, fromZero, tagFormed, zeroStored}
 use Rattle.keystream.specs.Starts.{startNumber}
 use Rattle.mac_registers.specs.Stored.{packed, tagWords, taggingOf}
@@ -63,6 +63,11 @@ startOutcome-128 key iv = tested (keyTest 16 key ∷ ivTest 16 iv ∷ []) refuse
 unfoldable pub startOutcome-EIA3 : ℕ → ℕ → ℕ → List ℕ → Outcome
 startOutcome-EIA3 count bearer direction key =
     tested (keyTest 16 key ∷ []) refusedTag (begunTag-128 (load₁₂₈ key (IV-EIA3 count bearer direction)))
+
+-- request 2026-04: bearer and direction as given, in the document's IV
+unfoldable pub strictStartOutcome-EIA3 : ℕ → ℕ → ℕ → List ℕ → Outcome
+strictStartOutcome-EIA3 count bearer direction key =
+    tested (keyTest 16 key ∷ fieldTest bearer direction ∷ []) refusedTag (begunTag-128 (load₁₂₈ key (bytesIV-EIA3 count bearer direction)))
 
 unfoldable pub startOutcome-256 : ℕ → List ℕ → List ℕ → Outcome
 startOutcome-256 width key iv =
@@ -178,6 +183,7 @@ abbrev pub onceTold-128 : Once128 → Once ℕ
 onceTold-128 (once-128.Tag x) = record { number = accepted; tag = x }
 onceTold-128 once-128.BadKey = refusedOnce 0 badKey
 onceTold-128 once-128.BadIv = refusedOnce 0 badIV
+onceTold-128 once-128.BadField = refusedOnce 0 badField
 onceTold-128 once-128.BadBits = refusedOnce 0 badBits
 onceTold-128 once-128.Spent = refusedOnce 0 spent
 
@@ -191,6 +197,12 @@ unfoldable pub onceOutcome-EIA3 : ℕ → ℕ → ℕ → List ℕ → List ℕ 
 onceOutcome-EIA3 count bearer direction key message l =
     tested (keyTest 16 key ∷ bitsTest l message ∷ limitTest 0 (drawnByTag-EIA3 l) ∷ []) (refusedOnce 0)
     (record { number = accepted; tag = tag-EIA3 (keystream (load₁₂₈ key (IV-EIA3 count bearer direction))) message l })
+
+-- request 2026-04
+unfoldable pub strictOnceOutcome-EIA3 : ℕ → ℕ → ℕ → List ℕ → List ℕ → ℕ → Once ℕ
+strictOnceOutcome-EIA3 count bearer direction key message l =
+    tested (keyTest 16 key ∷ fieldTest bearer direction ∷ bitsTest l message ∷ limitTest 0 (drawnByTag-EIA3 l) ∷ []) (refusedOnce 0)
+    (record { number = accepted; tag = tag-EIA3 (keystream (load₁₂₈ key (bytesIV-EIA3 count bearer direction))) message l })
 
 abbrev pub onceTold-256 : Once256 → Once (List ℕ)
 onceTold-256 (once-256.Tag x y) = record { number = accepted; tag = x ∷ y ∷ [] }

@@ -101,6 +101,7 @@ pub enum Once128 {
     Tag(u32),
     BadKey,
     BadIv,
+    BadField,
     BadBits,
     Spent,
 }
@@ -223,6 +224,7 @@ fn tag_from(start: Start, message: &[u8], l: usize) -> Once128
             Once128::Tag(close_128(&t0, &t1, state, message, l))
         }
         StartAnswer::BadIv => Once128::BadIv,
+        StartAnswer::BadField => Once128::BadField,
         _ => Once128::BadKey,
     }
 }

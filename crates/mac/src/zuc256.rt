@@ -109,7 +109,7 @@ pub fn finish(mac: Mac256, tail: &[u8], l: usize) -> Finish256
     }
 }
 
-// A whole message at once, or BadWidth, BadKey, BadIv, BadBits, Spent, in this order.
+// A whole message at once, or BadWidth, BadKey, BadIv, BadBits, Spent, in this order. ZUC-256 has no fields to refuse.
 pub fn compute(width: usize, key: &[u8], iv: &[u8], message: &[u8], l: usize) -> Once256
     ensures { λ r. ⌜ onceTold-256 r ≡ onceOutcome-256 width (now (key .entry)) (now (iv .entry)) (now (message .entry)) l ⌝ }
 {
@@ -131,7 +131,7 @@ pub fn compute(width: usize, key: &[u8], iv: &[u8], message: &[u8], l: usize) ->
             Once256::Tag(tag[0], tag[1])
         }
         StartAnswer::BadWidth => Once256::BadWidth,
-        StartAnswer::BadKey => Once256::BadKey,
         StartAnswer::BadIv => Once256::BadIv,
+        _ => Once256::BadKey,
     }
 }

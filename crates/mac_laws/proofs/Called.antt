@@ -12,12 +12,13 @@ use Rattle.keystream.specs.Starts.{startNumber}
 use Rattle.mac_registers.specs.Stored.{tagOf}
 use Rattle.mac.specs.declared.Start128.{Start128}
 use Rattle.mac.specs.declared.Start256.{Start256}
-use Rattle.mac.specs.Calls.{finishOutcome-128, finishOutcome-256, finishTold-128, finishTold-256, onceOutcome-128, onceOutcome-256, onceOutcome-EIA3, onceTold-128, onceTold-256, startOutcome-128, startOutcome-256, startOutcome-EIA3, startTold-128, startTold-256, tagList, tagNumber-128, tagNumber-256, tagWord, updateNumber, updateTold-128, updateTold-256}
+use Rattle.mac.specs.Calls.{finishOutcome-128, finishOutcome-256, finishTold-128, finishTold-256, onceOutcome-128, onceOutcome-256, onceOutcome-EIA3, onceTold-128, onceTold-256, startOutcome-128, startOutcome-256, startOutcome-EIA3, startTold-128, startTold-256, strictOnceOutcome-EIA3, strictStartOutcome-EIA3, tagList, tagNumber-128, tagNumber-256, tagWord, updateNumber, updateTold-128, updateTold-256}
 use Rattle.mac.specs.Reading.{taggedOf-128, taggedOf-256}
 use Rattle.mac.specs.Runs.{Tagged-128, Tagged-256, Updates, more}
 use Rattle.mac_laws.proofs.Runs.{ended}
 use Rattle.mac.proofs.zuc128.new.Reads as zuc128-new
 use Rattle.mac.proofs.eia3.new.Reads as eia3-new
+use Rattle.mac.proofs.eia3.new_strict.Reads as eia3-new-strict
 use Rattle.mac.proofs.zuc256.new.Reads as zuc256-new
 use Rattle.mac.proofs.zuc128.update.Reads as zuc128-update
 use Rattle.mac.proofs.zuc256.update.Reads as zuc256-update
@@ -25,6 +26,7 @@ use Rattle.mac.proofs.zuc128.finish.Reads as zuc128-finish
 use Rattle.mac.proofs.zuc256.finish.Reads as zuc256-finish
 use Rattle.mac.proofs.zuc128.compute.Reads as zuc128-compute
 use Rattle.mac.proofs.eia3.compute.Reads as eia3-compute
+use Rattle.mac.proofs.eia3.compute_strict.Reads as eia3-compute-strict
 use Rattle.mac.proofs.zuc256.compute.Reads as zuc256-compute
 
 -- a start, and a one-shot
@@ -33,6 +35,10 @@ called-zuc128-new κs a r s p = p
 
 pub called-eia3-new : Says eia3-new.Post (λ κs a r s. startTold-128 r ≡ startOutcome-EIA3 (a .0) (a .1 .0) (a .1 .1 .0) (now (a .1 .1 .1 .0)))
 called-eia3-new κs a r s p = p
+
+pub called-eia3-new-strict : Says eia3-new-strict.Post
+    (λ κs a r s. startTold-128 r ≡ strictStartOutcome-EIA3 (a .0) (a .1 .0) (a .1 .1 .0) (now (a .1 .1 .1 .0)))
+called-eia3-new-strict κs a r s p = p
 
 pub called-zuc256-new : Says zuc256-new.Post (λ κs a r s. startTold-256 r ≡ startOutcome-256 (a .0) (now (a .1 .0)) (now (a .1 .1 .0)))
 called-zuc256-new κs a r s p = p
@@ -44,6 +50,10 @@ called-zuc128-compute κs a r s p = p
 pub called-eia3-compute : Says eia3-compute.Post
     (λ κs a r s. onceTold-128 r ≡ onceOutcome-EIA3 (a .0) (a .1 .0) (a .1 .1 .0) (now (a .1 .1 .1 .0)) (now (a .1 .1 .1 .1 .0)) (a .1 .1 .1 .1 .1 .0))
 called-eia3-compute κs a r s p = p
+
+pub called-eia3-compute-strict : Says eia3-compute-strict.Post
+    (λ κs a r s. onceTold-128 r ≡ strictOnceOutcome-EIA3 (a .0) (a .1 .0) (a .1 .1 .0) (now (a .1 .1 .1 .0)) (now (a .1 .1 .1 .1 .0)) (a .1 .1 .1 .1 .1 .0))
+called-eia3-compute-strict κs a r s p = p
 
 pub called-zuc256-compute : Says zuc256-compute.Post
     (λ κs a r s. onceTold-256 r ≡ onceOutcome-256 (a .0) (now (a .1 .0)) (now (a .1 .1 .0)) (now (a .1 .1 .1 .0)) (a .1 .1 .1 .1 .0))

@@ -16,6 +16,7 @@ pub mod Listed
 pub mod Parts
 pub mod Loads
 pub mod Tested
+pub mod Fields
 pub mod Guard
 pub mod Promise
 pub mod Examples

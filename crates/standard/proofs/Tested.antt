@@ -1,14 +1,14 @@
 -- The order of checking: what is known of an outcome by its tests, and of the tests by an outcome; by induction on the list of tests.
 use mathlib.Core.Bool.{Bool, true, false}
 use mathlib.Core.List.{List, [], _∷_}
-use mathlib.Core.Logic.{_⊎_, inl, inr, ⊎-elim}
+use mathlib.Core.Logic.{_↔_, _⊎_, inl, inr, ⊎-elim}
 use mathlib.Core.Path.{_≡_, refl, sym, ap, _∙_, subst}
 use Prim.Native.Nat.{ℕ, _<_}
 use native.Mathlib.Omega.{arith}
 use Rattle.standard.specs.Notation.{if_then_else_}
 use Rattle.standard.specs.Refusals.{Test, tested}
 
--- every test passes; every number is a refusal's
+-- every test passes; every number is a refusal's; none is n
 abbrev pub AllPass : List Test → Type 0
 AllPass [] = Unit {0}
 AllPass (test ∷ rest) = (test .passes ≡ true) × AllPass rest
@@ -16,6 +16,10 @@ AllPass (test ∷ rest) = (test .passes ≡ true) × AllPass rest
 abbrev pub Numbered : List Test → Type 0
 Numbered [] = Unit {0}
 Numbered (test ∷ rest) = (0 < test .number) × Numbered rest
+
+abbrev pub Without : ℕ → List Test → Type 0
+Without n [] = Unit {0}
+Without n (test ∷ rest) = (test .number ≡ n → ⊥) × Without n rest
 
 -- one test
 if-map : {A B : Type 0} (f : A → B) (b : Bool) (x y : A) → f (if b then x else y) ≡ (if b then f x else f y)
@@ -29,6 +33,10 @@ if-when false x x′ y e = refl
 if-zero : {A : Type 0} (number : A → ℕ) (b : Bool) (x y : A) → (number y ≡ 0 → ⊥) → number (if b then x else y) ≡ 0 → (b ≡ true) × (number x ≡ 0)
 if-zero number true x y other e = (refl, e)
 if-zero number false x y other e = absurd (other e)
+
+if-never : {A : Type 0} (number : A → ℕ) {n : ℕ} (b : Bool) (x y : A) → (number x ≡ n → ⊥) → (number y ≡ n → ⊥) → number (if b then x else y) ≡ n → ⊥
+if-never number true x y f g = f
+if-never number false x y f g = g
 
 pub passed : {A : Type 0} (tests : List Test) (refused : ℕ → A) (answer : A) → AllPass tests → tested tests refused answer ≡ answer
 unfolding tested
@@ -82,3 +90,15 @@ module _ {A : Type 0} (number : A → ℕ) (refused : ℕ → A) (told : (n : �
 
   pub accepted-is : (tests : List Test) → Numbered tests → number (tested tests refused answer) ≡ 0 → tested tests refused answer ≡ answer
   accepted-is tests low e = passed tests refused answer (accepted-passed tests low e)
+
+  -- so it is accepted exactly if every test passes
+  pub accepted-exactly : number answer ≡ 0 → (tests : List Test) → Numbered tests → (number (tested tests refused answer) ≡ 0) ↔ AllPass tests
+  accepted-exactly ok tests low = (accepted-passed tests low, λ all. ap number (passed tests refused answer all) ∙ ok)
+
+  -- a number that neither a test nor the answer has is not the outcome's
+  pub never-told : (n : ℕ) → (number answer ≡ n → ⊥) → (tests : List Test) → Without n tests → number (tested tests refused answer) ≡ n → ⊥
+  unfolding tested
+  never-told n other [] without e = other e
+  never-told n other (test ∷ rest) without e =
+      if-never number (test .passes) (tested rest refused answer) (refused (test .number)) (never-told n other rest (without .1))
+      (λ f. without .0 (sym (told (test .number)) ∙ f)) e

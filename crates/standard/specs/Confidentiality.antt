@@ -9,10 +9,12 @@ use Rattle.standard.specs.Bits.{byteOf, bytesOf}
 abbrev pub halfIV-EEA3 : ℕ → ℕ → ℕ → List ℕ
 halfIV-EEA3 COUNT BEARER DIRECTION = bytesOf COUNT ++ ((BEARER * 2 ^ 3 + DIRECTION * 2 ^ 2) ∷ 0 ∷ 0 ∷ 0 ∷ [])
 
--- Document 01: a bearer keeps its low 5 bits, a direction its low bit
+abbrev pub bytesIV-EEA3 : ℕ → ℕ → ℕ → List ℕ
+bytesIV-EEA3 COUNT BEARER DIRECTION = halfIV-EEA3 COUNT BEARER DIRECTION ++ halfIV-EEA3 COUNT BEARER DIRECTION
+
+-- Document 01: a bearer keeps its low 5 bits, a direction its low bit. (Request 2026-04: strict forms take the numbers as given)
 unfoldable pub IV-EEA3 : ℕ → ℕ → ℕ → List ℕ
-IV-EEA3 count bearer direction =
-    halfIV-EEA3 count (bearer % 2 ^ 5) (direction % 2) ++ halfIV-EEA3 count (bearer % 2 ^ 5) (direction % 2)
+IV-EEA3 count bearer direction = bytesIV-EEA3 count (bearer % 2 ^ 5) (direction % 2)
 
 -- 3.5 (encryption and decryption): OBS[i] = IBS[i] ⊕ z[i]
 abbrev pub OBS : (ℕ → ℕ) → (ℕ → ℕ) → ℕ → ℕ

@@ -15,7 +15,7 @@ bytesIV-EIA3 COUNT BEARER DIRECTION =
     (byteOf COUNT 0 ⊕ DIRECTION * 2 ^ 7) ∷ byteOf COUNT 1 ∷ byteOf COUNT 2 ∷ byteOf COUNT 3 ∷
     (BEARER * 2 ^ 3) ∷ 0 ∷ (0 ⊕ DIRECTION * 2 ^ 7) ∷ 0 ∷ []
 
--- Document 01: a bearer keeps its low 5 bits, a direction its low bit
+-- Document 01: a bearer keeps its low 5 bits, a direction its low bit. (Request 2026-04: strict forms take the numbers as given)
 unfoldable pub IV-EIA3 : ℕ → ℕ → ℕ → List ℕ
 IV-EIA3 count bearer direction = bytesIV-EIA3 count (bearer % 2 ^ 5) (direction % 2)
 

@@ -1,7 +1,7 @@
 -- The table of refusal numbers (document 01, "Refusal numbers, in order of checking"), and what deciding by it means.
 -- Each number is given when, and only when, the words beside it hold and no test before it failed. Later requests add theirs here.
 -- Document 01's are checked in rising order; a request says its own order.
-use mathlib.Core.Bool.{Bool, not}
+use mathlib.Core.Bool.{Bool, _&&_, not}
 use mathlib.Core.List.{List, [], _∷_}
 use Prim.Native.Nat.{ℕ, _+_, _*_}
 use lib.Dec.{eqb, leb, ltb}
@@ -34,6 +34,10 @@ badState = 4
 abbrev pub badBits : ℕ
 badBits = 5
 
+-- Request 2026-04: a strict form was given a bearer above 31 or a direction above 1; checked directly after 2, and before 5
+abbrev pub badField : ℕ
+badField = 8
+
 -- Request 2026-09: the words that the call would draw are more than what is left of its start; checked after 5, or after 4 where 5 does
 -- not apply
 abbrev pub spent : ℕ
@@ -65,6 +69,10 @@ keyTest bytes key = record { passes = eqb (length key) bytes; number = badKey }
 
 abbrev pub ivTest : ℕ → List ℕ → Test
 ivTest bytes iv = record { passes = eqb (length iv) bytes; number = badIV }
+
+-- of a bearer and a direction
+abbrev pub fieldTest : ℕ → ℕ → Test
+fieldTest bearer direction = record { passes = leb bearer 31 && leb direction 1; number = badField }
 
 abbrev pub stateTest : Bool → Test
 stateTest formed = record { passes = formed; number = badState }

@@ -1,9 +1,11 @@
-// Helpers on words that the language lacks: rotation, bytes of a word, a bit length held against a byte count, words against what is left.
+// Helpers on numbers that the language lacks: rotation, bytes of a word, a bit length held against a byte count, a bearer and a direction
+// against their fields, words against what is left.
 ghost use lib.Dec.{leb};
 ghost use mathlib.Core.Path.{_≡_};
 ghost use Prim.Native.Nat.{_+_, _*_, _<_, _≤_};
 ghost use Rattle.standard.specs.Bits.{byteOf};
 ghost use Rattle.standard.specs.Notation.{_‖₈_, _⋘_};
+ghost use Rattle.standard.specs.Refusals.{fieldTest};
 ghost use Rattle.standard.specs.States.{limit};
 
 // x rotated left by n, which is 1 to 31.
@@ -39,6 +41,19 @@ pub fn bits_fit(bits: usize, bytes: usize) -> bool
         return true;
     }
     false
+}
+
+// Whether a bearer has 5 bits and a direction one (request 2026-04).
+pub fn fields_fit(bearer: u8, direction: u8) -> bool
+    ensures { λ r. ⌜ r ≡ fieldTest bearer direction .passes ⌝ }
+{
+    if bearer > 31 {
+        return false;
+    }
+    if direction > 1 {
+        return false;
+    }
+    true
 }
 
 // The words of a start (request 2026-09).

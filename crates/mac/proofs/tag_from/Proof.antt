@@ -96,9 +96,13 @@ returns-4 c = rw (ap startNumber (c .enum-told2 .given .1)) refl
 
 returns-5 : tie.Need-returns-5
 unfolding once-from-128 tested
-returns-5 c = rw (key-refused _ (c .match .keys3) (c .before .before .before .pre .1)) refl
+returns-5 c = rw (ap startNumber (c .enum-told3 .given .1)) refl
+
+returns-6 : tie.Need-returns-6
+unfolding once-from-128 tested
+returns-6 c = rw (key-refused _ (c .match .keys4) (c .before .before .before .pre .1)) refl
 
 pub tag-from-spec : {M : Type 1} → statement M
 tag-from-spec =
     tie.close
-    (tie.spec (λ c. search needs) (λ c κs. search needs) returns (λ c κs. search needs) (λ c κs. search needs) returns-2 (λ c κs. search needs) (λ c κs. search needs) begin-128-requires close-128-requires (λ c. search needs) returns-3 returns-4 returns-5)
+    (tie.spec (λ c. search needs) (λ c κs. search needs) returns (λ c κs. search needs) (λ c κs. search needs) returns-2 (λ c κs. search needs) (λ c κs. search needs) begin-128-requires close-128-requires (λ c. search needs) (λ c. search needs) returns-3 returns-4 returns-5 returns-6)

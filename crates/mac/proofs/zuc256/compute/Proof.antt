@@ -16,11 +16,11 @@ use Rattle.mac_registers.specs.Stored.{tagWords}
 use Rattle.mac_registers.specs.Inner.{Width}
 use Rattle.mac_registers.specs.Tagging.{closed-ZUC256}
 use Rattle.mac_registers.proofs.Packed.{at-packed, good-ZUC256, held-as}
-use Rattle.standard.specs.Refusals.{tested}
+use Rattle.standard.specs.Refusals.{badKey, tested}
 use Rattle.mac.specs.Inner.{Live, once-from-256}
 use Rattle.mac.specs.Calls.{onceOutcome-256}
-use Rattle.mac.proofs.Accepted.{accepted-width, live-256}
-use Rattle.mac.proofs.Outcomes.{once-256-is, spelled-tag}
+use Rattle.mac.proofs.Accepted.{accepted-width, live-256, no-field-256}
+use Rattle.mac.proofs.Outcomes.{key-refused-256, once-256-is, spelled-tag}
 use Rattle.mac.proofs.zuc256.compute.Statement.{statement}
 use Rattle.mac.proofs.zuc256.compute.Tie as tie
 
@@ -149,10 +149,13 @@ returns-5 c =
 returns-6 : tie.Need-returns-6
 unfolding once-from-256 tested
 returns-6 c =
-    let n = c .before .before .before in
-    sym (rw (ap startNumber (c .enum-told4 .given .1)) refl) ∙ told n
+    let n = c .before .before in
+    let a = n .before .before .before .before .args in
+    let key : startNumber (n .new-with-d .result .answer) ≡ badKey = key-refused-256 (n .new-with-d .result .answer) (c .match .keys4)
+    (λ e. no-field-256 (a .width) (now (a .key)) (now (a .iv)) (ap (λ (o : StartOutcome). o .number) (sym (n .new-with-d .ensures)) ∙ e)) in
+    sym (rw key refl) ∙ told n
 
 pub compute-spec : {M : Type 1} → statement M
 compute-spec =
     tie.close
-    (tie.spec (λ c κs. search needs) (λ c. search needs) (λ c κs. search needs) returns by-tag-256-requires (λ c κs. search needs) returns-2 (λ c κs. search needs) (λ c κs. search needs) begin-256-requires close-256-requires (λ c. search needs) (λ c. search needs) (λ c. search needs) (λ c. search needs) (λ c. search needs) returns-3 returns-4 returns-5 returns-6)
+    (tie.spec (λ c κs. search needs) (λ c. search needs) (λ c κs. search needs) returns by-tag-256-requires (λ c κs. search needs) returns-2 (λ c κs. search needs) (λ c κs. search needs) begin-256-requires close-256-requires (λ c. search needs) (λ c. search needs) (λ c. search needs) (λ c. search needs) returns-3 returns-4 returns-5 returns-6)
