@@ -4,6 +4,7 @@ ghost use Rattle.guard.specs.Outcome.{acceptNumber, rekeyNumber};
 ghost use Rattle.keystream.specs.Draws.{drawNumber, drawWord, fillNumber};
 ghost use Rattle.keystream.specs.Starts.{startNumber};
 ghost use Rattle.mac.specs.Calls.{onceTold-128, onceTold-256, tagList, tagNumber-128, tagNumber-256, tagWord, updateNumber};
+ghost use Rattle.mask.specs.Once.{onceCount, onceNumber};
 ghost use Rattle.mask.specs.Outcome.{countOf, numberOf};
 use guard::AcceptAnswer;
 use guard::RekeyAnswer;
@@ -16,6 +17,7 @@ use mac::Tag128;
 use mac::Tag256;
 use mac::UpdateAnswer;
 use mask::MaskAnswer;
+use mask::eea3::OnceAnswer;
 
 // The numbers of the standard's table (standard/specs/Refusals.antt), by the names that include/zuc.h has, less its ZUC_.
 pub const ACCEPTED: u32 = 0;
@@ -101,6 +103,31 @@ pub fn mask_count(answer: MaskAnswer) -> usize
         MaskAnswer::BadState => 0,
         MaskAnswer::BadBits => 0,
         MaskAnswer::Spent => 0,
+    }
+}
+
+// EEA3 in one call.
+pub fn once_mask_number(answer: OnceAnswer) -> u32
+    ensures { λ r. ⌜ r ≡ onceNumber answer ⌝ }
+{
+    match answer {
+        OnceAnswer::Done(_) => ACCEPTED,
+        OnceAnswer::BadKey => BAD_KEY,
+        OnceAnswer::BadField => BAD_FIELD,
+        OnceAnswer::BadBits => BAD_BITS,
+        OnceAnswer::Spent => SPENT,
+    }
+}
+
+pub fn once_mask_count(answer: OnceAnswer) -> usize
+    ensures { λ r. ⌜ r ≡ onceCount answer ⌝ }
+{
+    match answer {
+        OnceAnswer::Done(n) => n,
+        OnceAnswer::BadKey => 0,
+        OnceAnswer::BadField => 0,
+        OnceAnswer::BadBits => 0,
+        OnceAnswer::Spent => 0,
     }
 }
 

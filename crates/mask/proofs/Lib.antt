@@ -1,3 +1,4 @@
 pub mod Clear
 pub mod Outcomes
+pub mod Once
 pub mod Tight

@@ -1,2 +1,4 @@
 pub mod Inner
+pub mod Modes
+pub mod Once
 pub mod Outcome

@@ -1,4 +1,5 @@
-// Masking in place by bit length (the crate's internal/stream_cipher.rs), in the crate's mode and in clean mode.
+// Masking in place by bit length (the crate's internal/stream_cipher.rs), in the crate's mode and in clean mode; EEA3 in one call is a module.
+ghost use mathlib.Core.Bool.{true};
 ghost use mathlib.Core.Path.{_≡_};
 ghost use Prim.Native.Nat.{_≤_, _*_, _+_, _/_, _%_};
 ghost use lib.ListN.{length};
@@ -6,11 +7,14 @@ ghost use Rattle.mask.specs.Inner.{Enough, cleared, outcomeTo, zeroed};
 ghost use Rattle.mask.specs.Outcome.{told, crateOutcome, cleanOutcome};
 ghost use Rattle.standard.specs.Confidentiality.{keepHigh};
 ghost use Rattle.standard.specs.Notation.{eachFrom};
+ghost use Rattle.standard.specs.States.{generatorFormed};
 ghost use Rattle.zuc.specs.Reading.{countedOf};
 use mask_bulk::mask_all;
 use zuc::Generator;
 use zuc::boxes::s0;
 use zuc::boxes::s1;
+
+pub mod eea3;
 
 // What a call answers: the words drawn, or why it was refused.
 pub enum MaskAnswer {
@@ -59,7 +63,8 @@ fn keep_bits(buf: &mut [u8], q: usize, k: usize)
     }
 }
 
-// Both modes: they differ in how many bytes are masked and words drawn, and in how many high bits of byte floor(bits/8) are kept.
+// Both modes, of a well-formed state: they differ in how many bytes are masked and words drawn, and in how many high bits of byte
+// floor(bits/8) are kept.
 fn mask(
     start: Generator,
     buf: &mut [u8],
@@ -68,15 +73,9 @@ fn mask(
     to: usize,
     drawn: usize,
 ) -> Masked
-    requires { ⌜ kept ≤ 8 ⌝ ∗ ⌜ (bits ≤ length (now buf) * 8 → Enough (length (now buf)) (bits / 8 * 8 + kept) to drawn) ⌝ }
+    requires { ⌜ generatorFormed (countedOf start) ≡ true ⌝ ∗ ⌜ kept ≤ 8 ⌝ ∗ ⌜ (bits ≤ length (now buf) * 8 → Enough (length (now buf)) (bits / 8 * 8 + kept) to drawn) ⌝ }
     ensures { λ r. ⌜ told r (now (buf .exit)) ≡ outcomeTo drawn (bits / 8 * 8 + kept) (countedOf start) bits (now (buf .entry)) ⌝ }
 {
-    if !zuc::is_formed(start) {
-        return Masked {
-            answer: MaskAnswer::BadState,
-            state: start,
-        };
-    }
     if !words::bits_fit(bits, buf.len()) {
         return Masked {
             answer: MaskAnswer::BadBits,
@@ -103,8 +102,10 @@ fn mask(
     }
 }
 
-// As the crate does: a byte whose first bit is the first past the length stays masked, and the words go by the buffer.
-pub fn mask_crate(state: Generator, buf: &mut [u8], bits: usize) -> Masked
+// Crate mode of a state that was looked at, or that a start has just given: a byte whose first bit is the first past the length stays
+// masked, and the words go by the buffer.
+fn crate_formed(state: Generator, buf: &mut [u8], bits: usize) -> Masked
+    requires { ⌜ generatorFormed (countedOf state) ≡ true ⌝ }
     ensures { λ r. ⌜ told r (now (buf .exit)) ≡ crateOutcome (countedOf state) bits (now (buf .entry)) ⌝ }
 {
     let n = buf.len();
@@ -115,11 +116,39 @@ pub fn mask_crate(state: Generator, buf: &mut [u8], bits: usize) -> Masked
     mask(state, buf, bits, part, n, n / 4 + 1)
 }
 
-// Every bit at or past the length is zeroed, and the words go by the length: those bytes and words that the bits reach into.
-pub fn mask_clean(state: Generator, buf: &mut [u8], bits: usize) -> Masked
+// Clean mode of the same: every bit at or past the length is zeroed, and the words go by the length: those bytes and words that the bits
+// reach into.
+fn clean_formed(state: Generator, buf: &mut [u8], bits: usize) -> Masked
+    requires { ⌜ generatorFormed (countedOf state) ≡ true ⌝ }
     ensures { λ r. ⌜ told r (now (buf .exit)) ≡ cleanOutcome (countedOf state) bits (now (buf .entry)) ⌝ }
 {
     let to = bits / 8 + (bits % 8 + 7) / 8;
     let drawn = bits / 32 + (bits % 32 + 31) / 32;
     mask(state, buf, bits, bits % 8, to, drawn)
+}
+
+// As the crate does.
+pub fn mask_crate(state: Generator, buf: &mut [u8], bits: usize) -> Masked
+    ensures { λ r. ⌜ told r (now (buf .exit)) ≡ crateOutcome (countedOf state) bits (now (buf .entry)) ⌝ }
+{
+    if !zuc::is_formed(state) {
+        return Masked {
+            answer: MaskAnswer::BadState,
+            state,
+        };
+    }
+    crate_formed(state, buf, bits)
+}
+
+// With every bit past the length zeroed.
+pub fn mask_clean(state: Generator, buf: &mut [u8], bits: usize) -> Masked
+    ensures { λ r. ⌜ told r (now (buf .exit)) ≡ cleanOutcome (countedOf state) bits (now (buf .entry)) ⌝ }
+{
+    if !zuc::is_formed(state) {
+        return Masked {
+            answer: MaskAnswer::BadState,
+            state,
+        };
+    }
+    clean_formed(state, buf, bits)
 }

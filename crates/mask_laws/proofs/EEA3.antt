@@ -2,31 +2,28 @@
 -- keystream of the loaded key and IV, in clean mode by ⌈L/32⌉ words; and when both are accepted. By the laws of the definitions and the
 -- tests that were passed.
 use denote.Ref.{now}
-use mathlib.Core.List.{List, [], _++_}
-use mathlib.Core.Path.{_≡_, refl, sym, ap, _∙_}
-use Prim.Native.Nat.{ℕ, _*_, _%_, _^_, _<_, _≤_}
+use mathlib.Core.List.{List}
+use mathlib.Core.Path.{_≡_, sym, ap, _∙_}
+use Prim.Native.Nat.{ℕ, _*_, _<_, _≤_}
 use native.Mathlib.Nat.{zero-add}
 use native.Mathlib.Omega.{arith}
-use lib.Dec.{lit<}
 use lib.ListN.{length}
-use borrow.Author.Tests.{eq-eqb}
 use Rattle.standard.specs.Bits.{M, z}
-use Rattle.standard.specs.Confidentiality.{IV-EEA3, OBS, halfIV-EEA3, maskClean, maskCrate, wordsToMaskClean, wordsToMaskCrate}
+use Rattle.standard.specs.Confidentiality.{IV-EEA3, OBS, maskClean, maskCrate, wordsToMaskClean, wordsToMaskCrate}
 use Rattle.standard.specs.Generator.{State, keystream, started, wordAt}
 use Rattle.standard.specs.Loading.{load₁₂₈}
 use Rattle.standard.specs.Notation.{ceil}
-use Rattle.standard.specs.Refusals.{accepted, tested}
+use Rattle.standard.specs.Refusals.{accepted}
 use Rattle.standard.specs.States.{Counted, Held, drawnOn, fromStart, fromZero, limit, moved}
-use Rattle.standard.proofs.Cells.{All}
-use Rattle.standard.proofs.Generator.{sound-started, stream-is}
-use Rattle.standard.proofs.Held.{ready-generatorFormed}
+use Rattle.standard.proofs.Generator.{stream-is}
 use Rattle.standard.proofs.Masking.{obs-clean, obs-crate}
 use Rattle.standard.proofs.Promise.{Says}
 use Rattle.zuc.specs.Reading.{countedOf}
-use Rattle.zuc_loading.proofs.Loaded.{Bytes, byte-lt, cells-128, each-byte}
+use Rattle.zuc_loading.proofs.Loaded.{Bytes}
 use Rattle.keystream.specs.Starts.{StartOutcome, start-EEA3}
 use Rattle.keystream.proofs.Words.{at-rest-eea3}
 use Rattle.mask.specs.Outcome.{Outcome, cleanOutcome, crateOutcome, drawn, maskTested, told}
+use Rattle.mask.proofs.Once.{eea3-formed}
 use Rattle.mask.proofs.mask_clean.Reads as mask-clean
 use Rattle.mask.proofs.mask_crate.Reads as mask-crate
 use Rattle.mask_laws.proofs.Accepted.{mask-exactly, mask-is, told-is, told-passes}
@@ -77,23 +74,10 @@ module _ (count bearer direction : ℕ) (key : List ℕ) where
               ∙ (λ i. record { held = moved (ceil L 32) (fromZero (started loaded)); count = zero-add (ceil L 32) i }),
         )
 
-  -- a key of 16 bytes starts, and then every mask whose bit length fits and whose words are within the limit is accepted, in either mode
-  pub eea3-starts : length key ≡ 16 → start-EEA3 count bearer direction key ≡ record { number = accepted; state = fromStart (fromZero (started loaded)) }
-  unfolding start-EEA3 tested
-  eea3-starts e = rw (eq-eqb (length key) 16 e) refl
-
-  -- its IV is bytes
-  half-before : (l : List ℕ) → All (λ x. x < 2 ^ 8) l → All (λ x. x < 2 ^ 8) (halfIV-EEA3 count (bearer % 2 ^ 5) (direction % 2) ++ l)
-  half-before l h =
-      (byte-lt count 0, (byte-lt count 1, (byte-lt count 2, (byte-lt count 3, (omega arith, (lit< tt, (lit< tt, (lit< tt, h))))))))
-
-  iv-bytes : Bytes (IV-EEA3 count bearer direction)
-  unfolding IV-EEA3
-  iv-bytes = each-byte (IV-EEA3 count bearer direction) (half-before (halfIV-EEA3 count (bearer % 2 ^ 5) (direction % 2)) (half-before [] tt))
-
+  -- a key of 16 bytes starts (`eea3-starts` of mask/proofs/Once.antt), and then every mask whose bit length fits and whose words are within the
+  -- limit is accepted, in either mode
   pub eea3-masks : Bytes key → (words L : ℕ) (buffer masked : List ℕ) → L ≤ length buffer * 8 → words ≤ limit
       → maskTested (fromStart (fromZero (started loaded))) words L buffer masked ≡ drawn words (fromStart (fromZero (started loaded))) masked
   eea3-masks hk words L buffer masked h w =
       let g : Counted Held = fromStart (fromZero (started loaded)) in
-      let formed = ready-generatorFormed {g = g} (record { cells = sound-started loaded (cells-128 key (IV-EEA3 count bearer direction) hk iv-bytes); start = lit< tt }) (omega arith) in
-      mask-is g words L buffer masked (mask-exactly g words L buffer masked .1 (formed, h, omega arith))
+      mask-is g words L buffer masked (mask-exactly g words L buffer masked .1 (eea3-formed count bearer direction key hk, h, omega arith))

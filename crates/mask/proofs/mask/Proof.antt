@@ -11,40 +11,33 @@ use borrow.Author.Needs.{needs}
 use borrow.Author.Tests.{leb-true, not-true, not-false}
 use Rattle.standard.specs.Confidentiality.{maskedBuffer}
 use Rattle.standard.specs.Notation.{eachFrom}
-use Rattle.standard.specs.States.{generatorFormed, limit}
-use Rattle.zuc.specs.Reading.{countedOf}
+use Rattle.standard.specs.States.{limit}
 use Rattle.zuc.proofs.Turning.{formed-ready}
 use Rattle.mask.specs.Inner.{Enough, cleared}
 use Rattle.mask.proofs.Clear.{clear-masked}
-use Rattle.mask.proofs.Outcomes.{bad-state, bad-bits, too-many, accepted}
+use Rattle.mask.proofs.Outcomes.{bad-bits, too-many, accepted}
 use Rattle.mask.proofs.mask.Statement.{statement}
 use Rattle.mask.proofs.mask.Tie as tie
 
 -- what is known past the tests
-formed : (i : tie.Else1) → generatorFormed (countedOf (i .before .before .before .args .start)) ≡ true
-formed i = sym (i .before .is-formed .ensures) ∙ not-false _ (i .if1 .left)
+fits : (i : tie.Else1) → leb (i .before .before .before .args .bits) (length (now (i .before .before .before .args .buf)) * 8) ≡ true
+fits i = sym (i .before .bits-fit .ensures) ∙ not-false _ (i .if1 .left)
 
-fits : (i : tie.Else2) → leb (i .before .before .before .before .before .args .bits) (length (now (i .before .before .before .before .before .args .buf)) * 8) ≡ true
-fits i = sym (i .before .bits-fit .ensures) ∙ not-false _ (i .if2 .left)
-
-enough : (i : tie.Else2)
-    → let a = i .before .before .before .before .before .args in
+enough : (i : tie.Else1)
+    → let a = i .before .before .before .args in
     Enough (length (now (a .buf))) (a .bits / 8 * 8 + a .kept) (a .to) (a .drawn)
-enough i = let s = i .before .before .before .before .before in s .pre .1 (leb-true _ _ (fits i))
+enough i = let s = i .before .before .before in s .pre .1 .1 (leb-true _ _ (fits i))
 
 returns : tie.Need-returns
-returns c = bad-state _ _ _ _ _ (sym (c .before .is-formed .ensures) ∙ not-true _ (c .if1 .taken))
-
-returns-2 : tie.Need-returns-2
-returns-2 c = bad-bits _ _ _ _ _ (formed (c .before .before)) (sym (c .before .bits-fit .ensures) ∙ not-true _ (c .if2 .taken))
+returns c = bad-bits _ _ _ _ _ (c .before .before .before .pre .0) (sym (c .before .bits-fit .ensures) ∙ not-true _ (c .if1 .taken))
 
 has-left-requires : tie.Need-has-left-requires
-has-left-requires c κs = formed-ready _ (search needs) (formed (c .before .before)) .1
+has-left-requires c κs = formed-ready _ (search needs) (c .before .before .before .pre .0) .1
 
-returns-3 : tie.Need-returns-3
-returns-3 c =
+returns-2 : tie.Need-returns-2
+returns-2 c =
     let t = c .before .before in
-    too-many _ _ _ _ _ (formed (t .before .before)) (fits t) (sym (c .before .has-left .ensures) ∙ not-true _ (c .if3 .taken))
+    too-many _ _ _ _ _ (t .before .before .before .pre .0) (fits t) (sym (c .before .has-left .ensures) ∙ not-true _ (c .if2 .taken))
 
 relend : tie.Need-slice-relend-prefix-mask-all
 relend c = enough (c .before .before .before .before .before .before) .inside
@@ -56,30 +49,31 @@ mask-all-requires : tie.Need-mask-all-requires
 mask-all-requires c κs =
     let t = c .before .before .before .before .before .before .before in
     let e = enough t in
-    let a = t .before .before .before .before .before .args in
-    let n = length-take-le (a .to) (now (a .buf)) (e .inside) in (
+    let s = t .before .before .before in
+    let n = length-take-le (s .args .to) (now (s .args .buf)) (e .inside) in (
       c .before .before .before .before .s0 .ensures,
-      (c .before .before .before .s1 .ensures, (formed-ready _ (search needs) (formed (t .before .before)) .0, (omega (arith, n, e .masking), omega (arith, n, e .drawn)))),
+      (c .before .before .before .s1 .ensures, (formed-ready _ (search needs) (s .pre .0) .0, (omega (arith, n, e .masking), omega (arith, n, e .drawn)))),
     )
 
-add-count : tie.Need-add-t14
+add-count : tie.Need-add-t12
 add-count c =
     let passed = c .before .before .before .before .before .before .before .before .before .before .before .before in
     let left = passed .before in
-    let a = left .before .before .before .before .before .before .args in
-    omega (arith, leb-true (a .start .count + a .drawn) limit (sym (left .has-left .ensures) ∙ not-false _ (passed .if3 .left)))
+    let a = left .before .before .before .before .args in
+    omega (arith, leb-true (a .start .count + a .drawn) limit (sym (left .has-left .ensures) ∙ not-false _ (passed .if2 .left)))
 
-returns-4 : tie.Need-returns-4
-returns-4 c =
+returns-3 : tie.Need-returns-3
+returns-3 c =
     let m = c .before .before .before .before .before .before in
     let passed = m .before .before .before .before .before .before in
     let left = passed .before in
     let t = left .before in
-    let a = t .before .before .before .before .before .args in
-    accepted _ _ _ _ _ (formed (t .before .before)) (fits t) (sym (left .has-left .ensures) ∙ not-false _ (passed .if3 .left)) refl refl (m .mask-all .ensures .0)
-    (c .before .before .keep-bits .ensures ∙ clear-masked _ (now (a .buf)) _ (a .to) _ (λ i. t .before .before .before .before .slice-known .given i .fits) (enough t .inside) (enough t .reached) (m .mask-all .ensures .1))
+    let s = t .before .before .before in
+    let a = s .args in
+    accepted _ _ _ _ _ (s .pre .0) (fits t) (sym (left .has-left .ensures) ∙ not-false _ (passed .if2 .left)) refl refl (m .mask-all .ensures .0)
+    (c .before .before .keep-bits .ensures ∙ clear-masked _ (now (a .buf)) _ (a .to) _ (λ i. t .before .before .slice-known .given i .fits) (enough t .inside) (enough t .reached) (m .mask-all .ensures .1))
 
 pub mask-spec : {M : Type 1} → statement M
 mask-spec =
     tie.close
-    (tie.spec (λ c κs. search needs) returns (λ c κs. search needs) returns-2 has-left-requires returns-3 (λ c κs. search needs) (λ c κs. search needs) relend part-length mask-all-requires (λ c κs. search needs) add-count (λ c. search needs) returns-4)
+    (tie.spec (λ c κs. search needs) returns has-left-requires returns-2 (λ c κs. search needs) (λ c κs. search needs) relend part-length mask-all-requires (λ c κs. search needs) add-count (λ c. search needs) returns-3)

@@ -1,20 +1,16 @@
--- `mask_clean`: L bits are floor(L/8) whole bytes and L mod 8 bits, and reach into ceil(L/8) bytes and ceil(L/32) words.
-use mathlib.Core.Path.{_∙_}
-use native.Mathlib.Omega.{arith}
-use denote.Ref.{now}
+-- `mask_clean`: a malformed state is refused, and any other masked.
+use mathlib.Core.Path.{_∙_, sym}
 use borrow.Author.Needs.{needs}
-use Rattle.zuc.specs.Reading.{countedOf}
-use Rattle.mask.proofs.Outcomes.{clean-mode}
+use borrow.Author.Tests.{not-false, not-true}
+use Rattle.mask.proofs.Outcomes.{bad-state}
 use Rattle.mask.proofs.mask_clean.Statement.{statement}
 use Rattle.mask.proofs.mask_clean.Tie as tie
 
 returns : tie.Need-returns
-returns c =
-    let a = c .before .before .before .before .before .args in
-    c .before .before .mask .ensures
-    ∙ clean-mode (countedOf (a .state)) (a .bits) (now (a .buf)) _ _ (omega arith) (omega arith)
+returns c = bad-state _ _ _ _ _ (sym (c .before .is-formed .ensures) ∙ not-true _ (c .if1 .taken))
+
+formed-requires : tie.Need-clean-formed-requires
+formed-requires c κs = sym (c .before .before .is-formed .ensures) ∙ not-false _ (c .before .if1 .left)
 
 pub mask-clean-spec : {M : Type 1} → statement M
-mask-clean-spec =
-    tie.close
-    (tie.spec (λ c. search needs) (λ c. search needs) (λ c. search needs) (λ c. search needs) (λ c κs. search needs) (λ c. search needs) returns)
+mask-clean-spec = tie.close (tie.spec (λ c κs. search needs) returns formed-requires (λ c. search needs) (λ c. search needs))

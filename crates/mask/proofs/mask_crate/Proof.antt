@@ -1,29 +1,16 @@
--- `mask_crate`: crate mode is clean mode at L, or at a byte more where L ends on the edge of a byte.
-use mathlib.Core.Path.{_∙_}
-use native.Mathlib.Omega.{arith}
-use denote.Ref.{now}
+-- `mask_crate`: a malformed state is refused, and any other masked.
+use mathlib.Core.Path.{_∙_, sym}
 use borrow.Author.Needs.{needs}
-use Rattle.standard.proofs.Kept.{edge-end, inner-end}
-use Rattle.zuc.specs.Reading.{countedOf}
-use Rattle.mask.proofs.Outcomes.{crate-mode}
+use borrow.Author.Tests.{not-false, not-true}
+use Rattle.mask.proofs.Outcomes.{bad-state}
 use Rattle.mask.proofs.mask_crate.Statement.{statement}
 use Rattle.mask.proofs.mask_crate.Tie as tie
 
 returns : tie.Need-returns
-returns c =
-    let t = c .before .before .before .before in
-    let a = t .before .before .args in
-    c .before .before .mask .ensures
-    ∙ crate-mode (countedOf (a .state)) (a .bits) (now (a .buf)) _ _ (omega arith) (omega (arith, edge-end (a .bits) (t .if1 .taken)))
+returns c = bad-state _ _ _ _ _ (sym (c .before .is-formed .ensures) ∙ not-true _ (c .if1 .taken))
 
-returns-2 : tie.Need-returns-2
-returns-2 c =
-    let t = c .before .before .before .before in
-    let a = t .before .before .args in
-    c .before .before .mask2 .ensures
-    ∙ crate-mode (countedOf (a .state)) (a .bits) (now (a .buf)) _ _ (omega arith) (omega (arith, inner-end (a .bits) (t .if1 .left)))
+formed-requires : tie.Need-crate-formed-requires
+formed-requires c κs = sym (c .before .before .is-formed .ensures) ∙ not-false _ (c .before .if1 .left)
 
 pub mask-crate-spec : {M : Type 1} → statement M
-mask-crate-spec =
-    tie.close
-    (tie.spec (λ c. search needs) (λ c κs. search needs) (λ c. search needs) returns (λ c. search needs) (λ c κs. search needs) (λ c. search needs) returns-2)
+mask-crate-spec = tie.close (tie.spec (λ c κs. search needs) returns formed-requires (λ c. search needs) (λ c. search needs))
