@@ -7,14 +7,14 @@
  *
  * ANSWERS. Every function returns 0 when it has done its work and otherwise the
  * number of a refusal. Where several apply, the one that is checked first is
- * given: ZUC_BAD_WIDTH .. ZUC_BAD_BITS in the order of their numbers and then
- * ZUC_SPENT, those of a guard in the order ZUC_BAD_LINK, ZUC_BAD_AGE,
- * ZUC_BAD_REUSE.
+ * given, in the order in which they stand below: ZUC_BAD_WIDTH .. ZUC_SPENT, of
+ * which ZUC_BAD_FIELD comes directly after ZUC_BAD_KEY; those of a guard in the
+ * order ZUC_BAD_LINK, ZUC_BAD_AGE, ZUC_BAD_REUSE.
  *
  * REFUSALS ALTER NOTHING that a caller could go on with:
  *   - a state that was lent to a draw, mask, update or finish stays as it came,
  *     and so does every buffer, `out` of zuc_words included, and every link;
- *   - *word, *count, tag[0] and tag[1] are set to 0;
+ *   - *word, *count, *drawn, tag[0] and tag[1] are set to 0;
  *   - a start fills its state with zeros. Every later call refuses such a state
  *     (ZUC_BAD_STATE), so a start whose answer nobody looked at masks nothing.
  *
@@ -33,9 +33,15 @@
  *
  * LENDING. A pointer with a length `n` is to n elements; it may be NULL if n is
  * 0. Every other pointer is to one object of the type shown and is not NULL.
- * What a function writes to (state, buf, out, word, count, tag, links) overlaps
- * nothing else that the same call is lent. Nothing is kept after a function
- * returns.
+ * What a function writes to (state, buf, out, word, count, drawn, tag, links)
+ * overlaps nothing else that the same call is lent. Nothing is kept after a
+ * function returns.
+ *
+ * STRICT FORMS. BEARER has 5 bits and DIRECTION one. The functions of 128-EEA3 and
+ * 128-EIA3 take of other numbers the low bits, as the Rust crate zuc 0.4.1 does: a
+ * bearer of 33 is taken for 1. Those whose names end in _strict refuse such numbers
+ * with ZUC_BAD_FIELD, and answer the same as the plain ones to all others. Use them
+ * where the numbers are typed by hand or come from outside.
  *
  * BITS. A bit length counts from the highest bit of the first byte. It may be
  * anything up to 8 times the bytes lent; one more is ZUC_BAD_BITS. The two are
@@ -77,6 +83,7 @@ extern "C" {
 /* Refusals, in the order in which they are checked; the guard's own come last. */
 #define ZUC_BAD_WIDTH 1u /* the tag width is not 4, 8 or 16 bytes */
 #define ZUC_BAD_KEY 2u   /* the key is not 16 bytes, or 32 for ZUC-256 */
+#define ZUC_BAD_FIELD 8u /* a strict form: bearer above 31 or direction above 1 */
 #define ZUC_BAD_IV 3u    /* the IV is not 16 bytes, or 23 for ZUC-256 */
 #define ZUC_BAD_STATE 4u /* the state is malformed: refused, finished or spoilt */
 #define ZUC_BAD_BITS 5u  /* the bit length is more than 8 times the bytes lent */
@@ -122,6 +129,15 @@ uint32_t zuc256_start(uint32_t state[ZUC_STATE_WORDS],
 uint32_t eea3_start(uint32_t state[ZUC_STATE_WORDS],
                     uint32_t count, uint8_t bearer, uint8_t direction,
                     const uint8_t *key, size_t key_len);
+
+/*
+ * Starts 128-EEA3 strictly: bearer and direction are taken as given.
+ *
+ * Fills `state`. Refuses with ZUC_BAD_KEY, ZUC_BAD_FIELD; the state is then zeros.
+ */
+uint32_t eea3_start_strict(uint32_t state[ZUC_STATE_WORDS],
+                           uint32_t count, uint8_t bearer, uint8_t direction,
+                           const uint8_t *key, size_t key_len);
 
 /*
  * Draws the next word of the keystream.
@@ -176,6 +192,58 @@ uint32_t zuc_mask_clean(uint32_t state[ZUC_STATE_WORDS],
                         uint8_t *buf, size_t len, size_t bits, size_t *count);
 
 /* ---------------------------------------------------------------------------
+ * 128-EEA3 in one call: a start and a mask of it, with no state to keep. COUNT,
+ * BEARER and DIRECTION make the IV; the first `bits` bits of `buf` become the
+ * document's OBS[i] = IBS[i] xor z[i]; past them the modes differ as above. Each
+ * sets *drawn to the words drawn, as a mask sets *count. tests/c/receive.c is an
+ * example to copy.
+ * ------------------------------------------------------------------------- */
+
+/*
+ * Masks in crate mode: what zuc_mask_crate does from an eea3_start.
+ *
+ * Alters `buf` and sets *drawn. Refuses with ZUC_BAD_KEY, ZUC_BAD_BITS, ZUC_SPENT:
+ * *drawn is then 0, the buffer as it came.
+ */
+uint32_t eea3_mask_crate(uint32_t count, uint8_t bearer, uint8_t direction,
+                         const uint8_t *key, size_t key_len,
+                         uint8_t *buf, size_t len, size_t bits, size_t *drawn);
+
+/*
+ * Masks in clean mode: what zuc_mask_clean does from an eea3_start.
+ *
+ * Alters `buf` and sets *drawn. Refuses with ZUC_BAD_KEY, ZUC_BAD_BITS, ZUC_SPENT:
+ * *drawn is then 0, the buffer as it came.
+ */
+uint32_t eea3_mask_clean(uint32_t count, uint8_t bearer, uint8_t direction,
+                         const uint8_t *key, size_t key_len,
+                         uint8_t *buf, size_t len, size_t bits, size_t *drawn);
+
+/*
+ * Masks in crate mode, strictly: what zuc_mask_crate does from an
+ * eea3_start_strict.
+ *
+ * Alters `buf` and sets *drawn. Refuses with ZUC_BAD_KEY, ZUC_BAD_FIELD,
+ * ZUC_BAD_BITS, ZUC_SPENT: *drawn is then 0, the buffer as it came.
+ */
+uint32_t eea3_mask_crate_strict(uint32_t count, uint8_t bearer, uint8_t direction,
+                                const uint8_t *key, size_t key_len,
+                                uint8_t *buf, size_t len, size_t bits,
+                                size_t *drawn);
+
+/*
+ * Masks in clean mode, strictly: what zuc_mask_clean does from an
+ * eea3_start_strict.
+ *
+ * Alters `buf` and sets *drawn. Refuses with ZUC_BAD_KEY, ZUC_BAD_FIELD,
+ * ZUC_BAD_BITS, ZUC_SPENT: *drawn is then 0, the buffer as it came.
+ */
+uint32_t eea3_mask_clean_strict(uint32_t count, uint8_t bearer, uint8_t direction,
+                                const uint8_t *key, size_t key_len,
+                                uint8_t *buf, size_t len, size_t bits,
+                                size_t *drawn);
+
+/* ---------------------------------------------------------------------------
  * Tags, in steps: a start, any number of updates, one finish. How a message is
  * cut into updates does not matter. A tag is a number: one of 32 or 64 bits
  * stands in tag[0], with 0 in tag[1]; one of 128 has its high half in tag[0]
@@ -214,6 +282,15 @@ uint32_t zuc128_tag_start(uint64_t state[ZUC_TAG_WORDS],
 uint32_t eia3_tag_start(uint64_t state[ZUC_TAG_WORDS],
                         uint32_t count, uint8_t bearer, uint8_t direction,
                         const uint8_t *key, size_t key_len);
+
+/*
+ * Starts a 128-EIA3 tag strictly: bearer and direction are taken as given.
+ *
+ * Fills `state`. Refuses with ZUC_BAD_KEY, ZUC_BAD_FIELD; the state is then zeros.
+ */
+uint32_t eia3_tag_start_strict(uint64_t state[ZUC_TAG_WORDS],
+                               uint32_t count, uint8_t bearer, uint8_t direction,
+                               const uint8_t *key, size_t key_len);
 
 /*
  * Starts a ZUC-256 tag of `width` bytes, 4, 8 or 16: 32 bytes of key, 23 of IV.
@@ -297,6 +374,17 @@ uint32_t eia3_tag(uint32_t count, uint8_t bearer, uint8_t direction,
                   const uint8_t *key, size_t key_len,
                   const uint8_t *msg, size_t len, size_t bits,
                   uint64_t tag[2]);
+
+/*
+ * The 128-EIA3 tag, strictly: bearer and direction are taken as given.
+ *
+ * Sets tag[0], tag[1]. Refuses with ZUC_BAD_KEY, ZUC_BAD_FIELD, ZUC_BAD_BITS,
+ * ZUC_SPENT: the tag is then 0.
+ */
+uint32_t eia3_tag_strict(uint32_t count, uint8_t bearer, uint8_t direction,
+                         const uint8_t *key, size_t key_len,
+                         const uint8_t *msg, size_t len, size_t bits,
+                         uint64_t tag[2]);
 
 /*
  * The ZUC-256 tag, `width` bytes, of the first `bits` bits of `msg`.

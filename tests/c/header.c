@@ -84,6 +84,36 @@ static void published_masks(void)
     CHECK(memcmp(buf, plain, sizeof buf) == 0);
 }
 
+/* The same in one call, plain and strict. */
+static void masks_at_once(void)
+{
+    static const uint8_t key[16] = {
+        0x17, 0x3d, 0x14, 0xba, 0x50, 0x03, 0x73, 0x1d,
+        0x7a, 0x60, 0x04, 0x94, 0x70, 0xf0, 0x0a, 0x29,
+    };
+    uint8_t buf[4] = {0x6c, 0xf6, 0x53, 0x40};
+    size_t drawn;
+
+    CHECK(eea3_mask_crate(0x66035492, 0xf, 0, key, 16, buf, 4, 32, &drawn) == 0 && drawn == 2);
+    CHECK(memcmp(buf, "\xa6\xc8\x5f\xc6", 4) == 0);
+    CHECK(eea3_mask_clean(0x66035492, 0xf, 0, key, 16, buf, 4, 32, &drawn) == 0 && drawn == 1);
+    CHECK(memcmp(buf, "\x6c\xf6\x53\x40", 4) == 0);
+    CHECK(eea3_mask_crate_strict(0x66035492, 0xf, 0, key, 16, buf, 4, 32, &drawn) == 0);
+    CHECK(drawn == 2 && memcmp(buf, "\xa6\xc8\x5f\xc6", 4) == 0);
+    CHECK(eea3_mask_clean_strict(0x66035492, 0xf, 0, key, 16, buf, 4, 32, &drawn) == 0);
+    CHECK(drawn == 1 && memcmp(buf, "\x6c\xf6\x53\x40", 4) == 0);
+    /* 47 is taken for 15, and refused by the strict forms */
+    CHECK(eea3_mask_clean(0x66035492, 47, 0, key, 16, buf, 4, 32, &drawn) == 0);
+    CHECK(memcmp(buf, "\xa6\xc8\x5f\xc6", 4) == 0);
+    CHECK(eea3_mask_clean_strict(0x66035492, 47, 0, key, 16, buf, 4, 32, &drawn)
+          == ZUC_BAD_FIELD);
+    CHECK(drawn == 0 && memcmp(buf, "\xa6\xc8\x5f\xc6", 4) == 0);
+    CHECK(eea3_mask_crate_strict(0x66035492, 15, 2, key, 15, buf, 4, 33, &drawn) == ZUC_BAD_KEY);
+    CHECK(eea3_mask_crate_strict(0x66035492, 15, 2, key, 16, buf, 4, 33, &drawn)
+          == ZUC_BAD_FIELD);
+    CHECK(eea3_mask_crate_strict(0x66035492, 15, 1, key, 16, buf, 4, 33, &drawn) == ZUC_BAD_BITS);
+}
+
 /*
  * The byte at a bit length that is a multiple of 8 is masked or zero; either
  * way four bytes draw two words, so that the third comes next.
@@ -130,6 +160,13 @@ static void published_tags(void)
     CHECK(eia3_tag(0, 0, 0, zeros, 16, zeros, 1, 1, tag) == 0);
     CHECK(tag[0] == 0xc8a9595e && tag[1] == 0);
     CHECK(eia3_tag(0x561eb2dd, 0x14, 0, key, 16, zeros, 12, 90, tag) == 0);
+    CHECK(tag[0] == 0x6719a088 && tag[1] == 0);
+    CHECK(eia3_tag_strict(0x561eb2dd, 0x14, 0, key, 16, zeros, 12, 90, tag) == 0);
+    CHECK(tag[0] == 0x6719a088 && tag[1] == 0);
+    CHECK(eia3_tag_strict(0x561eb2dd, 0x34, 0, key, 16, zeros, 12, 90, tag) == ZUC_BAD_FIELD);
+    CHECK(all_zero(tag));
+    CHECK(eia3_tag_start_strict(state, 0x561eb2dd, 0x14, 0, key, 16) == 0);
+    CHECK(zuc128_tag_finish(state, zeros, 12, 90, tag) == 0);
     CHECK(tag[0] == 0x6719a088 && tag[1] == 0);
 
     CHECK(eia3_tag_start(state, 0x561eb2dd, 0x14, 0, key, 16) == 0);
@@ -183,6 +220,16 @@ static void refused_starts(void)
     CHECK(eea3_start(state, 1, 2, 1, zeros, 17) == ZUC_BAD_KEY);
     CHECK(memcmp(state, no_state, sizeof state) == 0);
 
+    memset(state, 7, sizeof state);
+    CHECK(eea3_start_strict(state, 1, 32, 1, zeros, 17) == ZUC_BAD_KEY);
+    CHECK(memcmp(state, no_state, sizeof state) == 0);
+    memset(state, 7, sizeof state);
+    CHECK(eea3_start_strict(state, 1, 31, 2, zeros, 16) == ZUC_BAD_FIELD);
+    CHECK(memcmp(state, no_state, sizeof state) == 0);
+
+    memset(tag_state, 7, sizeof tag_state);
+    CHECK(eia3_tag_start_strict(tag_state, 1, 32, 0, zeros, 16) == ZUC_BAD_FIELD);
+    CHECK(memcmp(tag_state, no_tag_state, sizeof tag_state) == 0);
     memset(tag_state, 7, sizeof tag_state);
     CHECK(zuc128_tag_start(tag_state, zeros, 0, zeros, 0) == ZUC_BAD_KEY);
     CHECK(memcmp(tag_state, no_tag_state, sizeof tag_state) == 0);
@@ -352,9 +399,16 @@ static void null_pointers(void)
     CHECK(zuc_mask_crate(state, NULL, 0, 0, &count) == 0 && count == 1);
     CHECK(zuc_mask_clean(state, NULL, 0, 0, &count) == 0 && count == 0);
     CHECK(zuc_mask_clean(state, NULL, 0, 1, &count) == ZUC_BAD_BITS);
+    CHECK(eea3_start_strict(state, 1, 2, 1, NULL, 0) == ZUC_BAD_KEY);
+    CHECK(eea3_mask_crate(1, 2, 1, zeros, 16, NULL, 0, 0, &count) == 0 && count == 1);
+    CHECK(eea3_mask_clean(1, 2, 1, zeros, 16, NULL, 0, 0, &count) == 0 && count == 0);
+    CHECK(eea3_mask_crate_strict(1, 2, 1, NULL, 0, NULL, 0, 0, &count) == ZUC_BAD_KEY);
+    CHECK(eea3_mask_clean_strict(1, 2, 1, zeros, 16, NULL, 0, 1, &count) == ZUC_BAD_BITS);
 
     CHECK(zuc128_tag_start(tag_state, NULL, 0, NULL, 0) == ZUC_BAD_KEY);
     CHECK(eia3_tag_start(tag_state, 1, 2, 1, NULL, 0) == ZUC_BAD_KEY);
+    CHECK(eia3_tag_start_strict(tag_state, 1, 2, 1, NULL, 0) == ZUC_BAD_KEY);
+    CHECK(eia3_tag_strict(1, 2, 1, NULL, 0, NULL, 0, 0, tag) == ZUC_BAD_KEY);
     CHECK(zuc256_tag_start(tag_state, 4, zeros, 32, NULL, 0) == ZUC_BAD_IV);
     CHECK(zuc128_tag_start(tag_state, zeros, 16, zeros, 16) == 0);
     CHECK(zuc128_tag_update(tag_state, NULL, 0) == 0);
@@ -378,6 +432,7 @@ int main(void)
 {
     published_words();
     published_masks();
+    masks_at_once();
     past_the_bit_length();
     published_tags();
     refused_starts();

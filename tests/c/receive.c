@@ -10,6 +10,8 @@
  *   3. the body, unmasked, and now the caller's to use.
  *
  * A COUNT that has passed the guard is spent, whatever becomes of the body.
+ * Bearer and direction are somebody's settings: the strict forms refuse one that does
+ * not fit its field, where the others would take its low bits for it.
  * Runs itself on a few blocks; exits with 1 if a step fails.
  */
 #include "zuc.h"
@@ -33,17 +35,16 @@ enum received { USED, WRONG_TAG, SEEN_OR_OLD, BROKEN };
 /* Masks and unmasks: 64 bits. */
 static uint32_t mask(const struct keys *keys, uint32_t count, uint8_t body[8])
 {
-    uint32_t state[ZUC_STATE_WORDS], refusal;
-    size_t words;
+    size_t drawn;
 
-    refusal = eea3_start(state, count, keys->bearer, keys->direction, keys->ck, 16);
-    return refusal ? refusal : zuc_mask_clean(state, body, 8, 64, &words);
+    return eea3_mask_clean_strict(count, keys->bearer, keys->direction, keys->ck, 16,
+                                  body, 8, 64, &drawn);
 }
 
 static uint32_t tag_of(const struct keys *keys, const struct block *block, uint64_t tag[2])
 {
-    return eia3_tag(block->count, keys->bearer, keys->direction, keys->ik, 16,
-                    block->body, 8, 64, tag);
+    return eia3_tag_strict(block->count, keys->bearer, keys->direction, keys->ik, 16,
+                           block->body, 8, 64, tag);
 }
 
 /* Leaves the plain body in `block` if the answer is USED, and else all as it came. */
@@ -88,6 +89,7 @@ int main(void)
 {
     static const struct keys keys = {{1, 2, 3}, {4, 5, 6}, 7, 1};
     struct zuc_link links[2] = {{0, 0}, {0, 0}};
+    static const struct keys mistyped = {{1, 2, 3}, {4, 5, 6}, 39, 1};
     struct block good = sent(&keys, 1000, "register"), again = good, late, forged;
 
     expect(receive(&keys, links, 2, 1, &good) == USED, "a block is used");
@@ -100,6 +102,9 @@ int main(void)
     expect(receive(&keys, links, 2, 1, &forged) == WRONG_TAG, "a forged COUNT is found by its tag");
     expect(links[1].highest == 1000, "and has not moved the window");
     expect(receive(&keys, links, 2, 1, &late) == USED, "so a late block still passes");
+
+    late = sent(&keys, 1001, "another.");
+    expect(receive(&mistyped, links, 2, 1, &late) == BROKEN, "bearer 39 is not taken for 7");
 
     expect(zuc_guard_rekey(links, 2, 1) == 0, "new keys, a fresh link");
     printf("receive.c: %d failed\n", failures);

@@ -162,6 +162,11 @@ static void call_eea3_start(void)
     answered_with(eea3_start(state, 7, 5, 1, key, 16), &state[16]);
 }
 
+static void call_eea3_start_strict(void)
+{
+    answered_with(eea3_start_strict(state, 7, 5, 1, key, 16), &state[16]);
+}
+
 static void call_zuc_draw(void)
 {
     size_t i;
@@ -200,6 +205,35 @@ static void call_zuc_mask_clean(void)
     masks(zuc_mask_clean);
 }
 
+static void masks_at_once(__typeof__(eea3_mask_crate) *mask)
+{
+    size_t len, less;
+
+    for (len = 0; len <= sizeof data; len += 1 + len / 8)
+        for (less = 0; less <= 8 * len && less < 100; less += 11 + less)
+            answered(mask(7, 5, 1, key, 16, data, len, 8 * len - less, &count));
+}
+
+static void call_eea3_mask_crate(void)
+{
+    masks_at_once(eea3_mask_crate);
+}
+
+static void call_eea3_mask_clean(void)
+{
+    masks_at_once(eea3_mask_clean);
+}
+
+static void call_eea3_mask_crate_strict(void)
+{
+    masks_at_once(eea3_mask_crate_strict);
+}
+
+static void call_eea3_mask_clean_strict(void)
+{
+    masks_at_once(eea3_mask_clean_strict);
+}
+
 static void call_zuc128_tag_start(void)
 {
     answered_with(zuc128_tag_start(tag_state, key, 16, iv, 16), &tag_state[8]);
@@ -208,6 +242,11 @@ static void call_zuc128_tag_start(void)
 static void call_eia3_tag_start(void)
 {
     answered_with(eia3_tag_start(tag_state, 7, 5, 1, key, 16), &tag_state[8]);
+}
+
+static void call_eia3_tag_start_strict(void)
+{
+    answered_with(eia3_tag_start_strict(tag_state, 7, 5, 1, key, 16), &tag_state[8]);
 }
 
 static void call_zuc256_tag_start(void)
@@ -275,6 +314,14 @@ static void call_eia3_tag(void)
         answered(eia3_tag(7, 5, 1, key, 16, data, sizeof data, bits, tag));
 }
 
+static void call_eia3_tag_strict(void)
+{
+    size_t bits;
+
+    for (bits = 0; bits <= 8 * sizeof data; bits += 1 + bits / 8)
+        answered(eia3_tag_strict(7, 5, 1, key, 16, data, sizeof data, bits, tag));
+}
+
 static void call_zuc256_tag(void)
 {
     size_t width, bits;
@@ -319,11 +366,13 @@ static const struct {
     const char *name;
     void (*call)(void);
 } rows[] = {
-    ROW(zuc128_start), ROW(zuc256_start), ROW(eea3_start), ROW(zuc_draw), ROW(zuc_words),
-    ROW(zuc_mask_crate), ROW(zuc_mask_clean), ROW(zuc128_tag_start), ROW(eia3_tag_start),
-    ROW(zuc256_tag_start), ROW(zuc128_tag_update), ROW(zuc256_tag_update),
-    ROW(zuc128_tag_finish), ROW(zuc256_tag_finish), ROW(zuc128_tag), ROW(eia3_tag),
-    ROW(zuc256_tag), ROW(zuc_guard_accept), ROW(zuc_guard_rekey), ROW(a_branch), ROW(a_look_up),
+    ROW(zuc128_start), ROW(zuc256_start), ROW(eea3_start), ROW(eea3_start_strict), ROW(zuc_draw),
+    ROW(zuc_words), ROW(zuc_mask_crate), ROW(zuc_mask_clean), ROW(eea3_mask_crate),
+    ROW(eea3_mask_clean), ROW(eea3_mask_crate_strict), ROW(eea3_mask_clean_strict),
+    ROW(zuc128_tag_start), ROW(eia3_tag_start), ROW(eia3_tag_start_strict), ROW(zuc256_tag_start),
+    ROW(zuc128_tag_update), ROW(zuc256_tag_update), ROW(zuc128_tag_finish), ROW(zuc256_tag_finish),
+    ROW(zuc128_tag), ROW(eia3_tag), ROW(eia3_tag_strict), ROW(zuc256_tag), ROW(zuc_guard_accept),
+    ROW(zuc_guard_rekey), ROW(a_branch), ROW(a_look_up),
 };
 
 int main(int argc, char **argv)

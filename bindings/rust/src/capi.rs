@@ -6,7 +6,7 @@
 //! for callers who keep states in their own memory, or who want the numbers.
 //!
 //! A refusal leaves a lent state and every buffer as they came and sets `word`,
-//! `count` and `tag` to 0; a refused start fills its state with zeros.
+//! `count`, `drawn` and `tag` to 0; a refused start fills its state with zeros.
 //!
 //! ```
 //! use yegetmur::capi::{self, STATE_WORDS};
@@ -75,6 +75,19 @@ pub fn eea3_start(state: &mut State, count: u32, bearer: u8, direction: u8, key:
     unsafe { ffi::eea3_start(state, count, bearer, direction, key.as_ptr(), key.len()) }
 }
 
+/// As [`eea3_start`], of a bearer and a direction as given.
+/// [Refuses](crate::Refusal) by Key, Field.
+pub fn eea3_start_strict(
+    state: &mut State,
+    count: u32,
+    bearer: u8,
+    direction: u8,
+    key: &[u8],
+) -> u32 {
+    // SAFETY: see the top.
+    unsafe { ffi::eea3_start_strict(state, count, bearer, direction, key.as_ptr(), key.len()) }
+}
+
 /// Draws the next word.
 /// [Refuses](crate::Refusal) by State, Limit.
 pub fn zuc_draw(state: &mut State, word: &mut u32) -> u32 {
@@ -103,6 +116,90 @@ pub fn zuc_mask_clean(state: &mut State, buf: &mut [u8], bits: usize, count: &mu
     unsafe { ffi::zuc_mask_clean(state, buf.as_mut_ptr(), buf.len(), bits, count) }
 }
 
+/// 128-EEA3 in one call, as the crate does; `drawn` is set to the words drawn.
+/// [Refuses](crate::Refusal) by Key, Bits, Limit.
+pub fn eea3_mask_crate(
+    count: u32,
+    bearer: u8,
+    direction: u8,
+    key: &[u8],
+    buf: &mut [u8],
+    bits: usize,
+    drawn: &mut usize,
+) -> u32 {
+    let (key_len, len) = (key.len(), buf.len());
+    let (key, buf) = (key.as_ptr(), buf.as_mut_ptr());
+    // SAFETY: see the top.
+    unsafe {
+        ffi::eea3_mask_crate(
+            count, bearer, direction, key, key_len, buf, len, bits, drawn,
+        )
+    }
+}
+
+/// 128-EEA3 in one call, with every bit past `bits` zeroed.
+/// [Refuses](crate::Refusal) by Key, Bits, Limit.
+pub fn eea3_mask_clean(
+    count: u32,
+    bearer: u8,
+    direction: u8,
+    key: &[u8],
+    buf: &mut [u8],
+    bits: usize,
+    drawn: &mut usize,
+) -> u32 {
+    let (key_len, len) = (key.len(), buf.len());
+    let (key, buf) = (key.as_ptr(), buf.as_mut_ptr());
+    // SAFETY: see the top.
+    unsafe {
+        ffi::eea3_mask_clean(
+            count, bearer, direction, key, key_len, buf, len, bits, drawn,
+        )
+    }
+}
+
+/// As [`eea3_mask_crate`], of a bearer and a direction as given.
+/// [Refuses](crate::Refusal) by Key, Field, Bits, Limit.
+pub fn eea3_mask_crate_strict(
+    count: u32,
+    bearer: u8,
+    direction: u8,
+    key: &[u8],
+    buf: &mut [u8],
+    bits: usize,
+    drawn: &mut usize,
+) -> u32 {
+    let (key_len, len) = (key.len(), buf.len());
+    let (key, buf) = (key.as_ptr(), buf.as_mut_ptr());
+    // SAFETY: see the top.
+    unsafe {
+        ffi::eea3_mask_crate_strict(
+            count, bearer, direction, key, key_len, buf, len, bits, drawn,
+        )
+    }
+}
+
+/// As [`eea3_mask_clean`], of a bearer and a direction as given.
+/// [Refuses](crate::Refusal) by Key, Field, Bits, Limit.
+pub fn eea3_mask_clean_strict(
+    count: u32,
+    bearer: u8,
+    direction: u8,
+    key: &[u8],
+    buf: &mut [u8],
+    bits: usize,
+    drawn: &mut usize,
+) -> u32 {
+    let (key_len, len) = (key.len(), buf.len());
+    let (key, buf) = (key.as_ptr(), buf.as_mut_ptr());
+    // SAFETY: see the top.
+    unsafe {
+        ffi::eea3_mask_clean_strict(
+            count, bearer, direction, key, key_len, buf, len, bits, drawn,
+        )
+    }
+}
+
 /// Starts a ZUC-128 tag: 16 bytes of key, 16 of IV.
 /// [Refuses](crate::Refusal) by Key, Iv.
 pub fn zuc128_tag_start(state: &mut TagState, key: &[u8], iv: &[u8]) -> u32 {
@@ -121,6 +218,19 @@ pub fn eia3_tag_start(
 ) -> u32 {
     // SAFETY: see the top.
     unsafe { ffi::eia3_tag_start(state, count, bearer, direction, key.as_ptr(), key.len()) }
+}
+
+/// As [`eia3_tag_start`], of a bearer and a direction as given.
+/// [Refuses](crate::Refusal) by Key, Field.
+pub fn eia3_tag_start_strict(
+    state: &mut TagState,
+    count: u32,
+    bearer: u8,
+    direction: u8,
+    key: &[u8],
+) -> u32 {
+    // SAFETY: see the top.
+    unsafe { ffi::eia3_tag_start_strict(state, count, bearer, direction, key.as_ptr(), key.len()) }
 }
 
 /// Starts a ZUC-256 tag of `width` bytes: 32 bytes of key, 23 of IV.
@@ -192,6 +302,23 @@ pub fn eia3_tag(
     let (key, msg) = (key.as_ptr(), msg.as_ptr());
     // SAFETY: see the top.
     unsafe { ffi::eia3_tag(count, bearer, direction, key, key_len, msg, len, bits, tag) }
+}
+
+/// As [`eia3_tag`], of a bearer and a direction as given.
+/// [Refuses](crate::Refusal) by Key, Field, Bits, Limit.
+pub fn eia3_tag_strict(
+    count: u32,
+    bearer: u8,
+    direction: u8,
+    key: &[u8],
+    msg: &[u8],
+    bits: usize,
+    tag: &mut [u64; 2],
+) -> u32 {
+    let (key_len, len) = (key.len(), msg.len());
+    let (key, msg) = (key.as_ptr(), msg.as_ptr());
+    // SAFETY: see the top.
+    unsafe { ffi::eia3_tag_strict(count, bearer, direction, key, key_len, msg, len, bits, tag) }
 }
 
 /// The ZUC-256 tag, `width` bytes, of the first `bits` bits of `msg`.

@@ -1,7 +1,24 @@
 //! 128-EEA3, the 3GPP confidentiality algorithm: ZUC-128 with the IV that COUNT,
 //! BEARER and DIRECTION make.
 //!
-//! Of `bearer` the low 5 bits count, of `direction` the lowest, as in the crate.
+//! Of `bearer` the low 5 bits count, of `direction` the lowest, as in the crate. Where
+//! that is not wanted there are strict forms: they refuse a bearer above 31 and a
+//! direction above 1, and answer the same as the others to all else.
+//!
+//! ```
+//! use yegetmur::eea3::{eea3_xor_clean_strict, try_eea3_xor_clean};
+//! use yegetmur::Refusal;
+//!
+//! let mut block = *b"register";
+//! assert_eq!(eea3_xor_clean_strict(7, 33, 1, &[3; 16], &mut block, 64), Err(Refusal::Field));
+//! assert_eq!(&block, b"register"); // a refusal alters nothing
+//!
+//! let mut other = block;
+//! assert_eq!(eea3_xor_clean_strict(7, 1, 1, &[3; 16], &mut block, 64), Ok(2)); // words drawn
+//! try_eea3_xor_clean(7, 33, 1, &[3; 16], &mut other, 64)?; // takes 33 for 1
+//! assert_eq!(block, other);
+//! # Ok::<(), Refusal>(())
+//! ```
 
 use crate::capi;
 use crate::generator::{beside_the_crate, Generator};
@@ -23,6 +40,16 @@ impl Eea3Keystream {
     /// [`Refusal::Key`]: the key is not 16 bytes.
     pub fn try_new(count: u32, bearer: u8, direction: u8, ck: &[u8]) -> Result<Self, Refusal> {
         Generator::start(|state| capi::eea3_start(state, count, bearer, direction, ck)).map(Self)
+    }
+
+    /// As [`try_new`](Self::try_new), of a bearer and a direction as given.
+    ///
+    /// # Errors
+    /// [`Refusal::Key`]; then [`Refusal::Field`]: the bearer is above 31 or the direction
+    /// above 1.
+    pub fn new_strict(count: u32, bearer: u8, direction: u8, ck: &[u8]) -> Result<Self, Refusal> {
+        Generator::start(|state| capi::eea3_start_strict(state, count, bearer, direction, ck))
+            .map(Self)
     }
 
     /// Generates the next 32-bit word of the keystream.
@@ -81,7 +108,7 @@ pub fn try_eea3_xor_inplace(
     data: &mut [u8],
     bitlen: usize,
 ) -> Result<usize, Refusal> {
-    Eea3Keystream::try_new(count, bearer, direction, ck)?.try_xor_inplace(data, bitlen)
+    drawn(|n| capi::eea3_mask_crate(count, bearer, direction, ck, data, bitlen, n))
 }
 
 /// Masks the first `bitlen` bits of `data` in place and zeroes every bit after
@@ -117,5 +144,44 @@ pub fn try_eea3_xor_clean(
     data: &mut [u8],
     bitlen: usize,
 ) -> Result<usize, Refusal> {
-    Eea3Keystream::try_new(count, bearer, direction, ck)?.try_xor_clean(data, bitlen)
+    drawn(|n| capi::eea3_mask_clean(count, bearer, direction, ck, data, bitlen, n))
+}
+
+/// As [`try_eea3_xor_inplace`], of a bearer and a direction as given.
+///
+/// # Errors
+/// [`Refusal::Key`], [`Refusal::Field`], [`Refusal::Bits`], [`Refusal::Limit`], checked
+/// in this order; `data` is then as it came.
+pub fn eea3_xor_inplace_strict(
+    count: u32,
+    bearer: u8,
+    direction: u8,
+    ck: &[u8],
+    data: &mut [u8],
+    bitlen: usize,
+) -> Result<usize, Refusal> {
+    drawn(|n| capi::eea3_mask_crate_strict(count, bearer, direction, ck, data, bitlen, n))
+}
+
+/// As [`try_eea3_xor_clean`], of a bearer and a direction as given.
+///
+/// # Errors
+/// [`Refusal::Key`], [`Refusal::Field`], [`Refusal::Bits`], [`Refusal::Limit`], checked
+/// in this order; `data` is then as it came.
+pub fn eea3_xor_clean_strict(
+    count: u32,
+    bearer: u8,
+    direction: u8,
+    ck: &[u8],
+    data: &mut [u8],
+    bitlen: usize,
+) -> Result<usize, Refusal> {
+    drawn(|n| capi::eea3_mask_clean_strict(count, bearer, direction, ck, data, bitlen, n))
+}
+
+/// The words that a mask in one call drew.
+fn drawn(mask: impl FnOnce(&mut usize) -> u32) -> Result<usize, Refusal> {
+    let mut words = 0;
+    Refusal::check(mask(&mut words))?;
+    Ok(words)
 }

@@ -1,7 +1,23 @@
 //! 128-EIA3, the 3GPP integrity algorithm: a ZUC-128 tag with the IV that COUNT,
 //! BEARER and DIRECTION make.
 //!
-//! Of `bearer` the low 5 bits count, of `direction` the lowest, as in the crate.
+//! Of `bearer` the low 5 bits count, of `direction` the lowest, as in the crate. Where
+//! that is not wanted there are strict forms: they refuse a bearer above 31 and a
+//! direction above 1, and answer the same as the others to all else.
+//!
+//! ```
+//! use yegetmur::eia3::Eia3Mac;
+//! use yegetmur::Refusal;
+//!
+//! assert_eq!(Eia3Mac::compute_strict(7, 1, 2, &[3; 16], b"block", 40), Err(Refusal::Field));
+//! let tag = Eia3Mac::compute_strict(7, 1, 0, &[3; 16], b"block", 40)?;
+//! assert_eq!(tag, Eia3Mac::compute(7, 33, 2, &[3; 16], b"block", 40)); // takes 33 for 1
+//!
+//! let mut mac = Eia3Mac::new_strict(7, 1, 0, &[3; 16])?;
+//! mac.update(b"bl");
+//! assert_eq!(mac.finish(b"ock", 24), tag);
+//! # Ok::<(), Refusal>(())
+//! ```
 
 use crate::capi;
 use crate::refusal::{or_panic, Refusal};
@@ -54,6 +70,22 @@ impl Eia3Mac {
         answered(|tag| capi::eia3_tag(count, bearer, direction, ik, msg, bitlen, tag))
     }
 
+    /// As [`try_compute`](Self::try_compute), of a bearer and a direction as given.
+    ///
+    /// # Errors
+    /// [`Refusal::Key`], [`Refusal::Field`], [`Refusal::Bits`], [`Refusal::Limit`],
+    /// checked in this order.
+    pub fn compute_strict(
+        count: u32,
+        bearer: u8,
+        direction: u8,
+        ik: &[u8],
+        msg: &[u8],
+        bitlen: usize,
+    ) -> Result<u32, Refusal> {
+        answered(|tag| capi::eia3_tag_strict(count, bearer, direction, ik, msg, bitlen, tag))
+    }
+
     /// Creates a 128-EIA3 MAC generator.
     #[must_use]
     pub fn new(count: u32, bearer: u8, direction: u8, ik: &[u8; 16]) -> Self {
@@ -66,6 +98,16 @@ impl Eia3Mac {
     /// [`Refusal::Key`]: the key is not 16 bytes.
     pub fn try_new(count: u32, bearer: u8, direction: u8, ik: &[u8]) -> Result<Self, Refusal> {
         started(|state| capi::eia3_tag_start(state, count, bearer, direction, ik))
+            .map(|state| Self(Zuc128Mac(state)))
+    }
+
+    /// As [`try_new`](Self::try_new), of a bearer and a direction as given.
+    ///
+    /// # Errors
+    /// [`Refusal::Key`]; then [`Refusal::Field`]: the bearer is above 31 or the direction
+    /// above 1.
+    pub fn new_strict(count: u32, bearer: u8, direction: u8, ik: &[u8]) -> Result<Self, Refusal> {
+        started(|state| capi::eia3_tag_start_strict(state, count, bearer, direction, ik))
             .map(|state| Self(Zuc128Mac(state)))
     }
 

@@ -5,14 +5,16 @@ use core::fmt;
 use crate::ffi::WORDS_PER_START;
 
 /// Why a call was refused. Where several reasons apply, the one that is checked
-/// first is given: of the first five the one with the lowest number, after them
-/// `Limit`, of the [`Guard`](crate::Guard)'s `Link`, `Age`, `Reuse` in this order.
+/// first is given, in the order in which they stand here: `Field` directly after
+/// `Key`, `Limit` last, of the [`Guard`](crate::Guard)'s `Link`, `Age`, `Reuse`.
 #[derive(Clone, Copy, Debug, PartialEq, Eq, Hash)]
 pub enum Refusal {
     /// The tag width is not 4, 8 or 16 bytes.
     Width = 1,
     /// The key is not 16 bytes, or 32 for ZUC-256.
     Key = 2,
+    /// A strict form: the bearer is above 31 or the direction above 1.
+    Field = 8,
     /// The IV is not 16 bytes, or 23 for ZUC-256.
     Iv = 3,
     /// The state is malformed; of a tag here: it is closed.
@@ -31,9 +33,10 @@ pub enum Refusal {
 }
 
 impl Refusal {
-    const ALL: [Self; 9] = [
+    const ALL: [Self; 10] = [
         Self::Width,
         Self::Key,
+        Self::Field,
         Self::Iv,
         Self::State,
         Self::Bits,
@@ -76,6 +79,7 @@ impl fmt::Display for Refusal {
         f.write_str(match self {
             Self::Width => "the tag width is not 4, 8 or 16 bytes",
             Self::Key => "the key has the wrong length",
+            Self::Field => "the bearer is above 31 or the direction above 1",
             Self::Iv => "the IV has the wrong length",
             Self::State => "the state is malformed or the tag is closed",
             Self::Bits => "the bit length is more than 8 times the bytes given",

@@ -29,7 +29,7 @@ fn functions<'a>(text: &'a str, prefix: &str) -> Vec<&'a str> {
 #[test]
 fn functions_agree() {
     let names = functions(HEADER, "uint32_t ");
-    assert_eq!(names.len(), 19);
+    assert_eq!(names.len(), 26);
     assert_eq!(functions(DECLARATIONS, "pub fn "), names);
     assert_eq!(functions(WRAPPERS, "pub fn "), names);
 }
@@ -41,6 +41,7 @@ fn numbers_agree() {
     assert_eq!(defined("ZUC_WORDS_PER_START"), WORDS_PER_START);
     assert_eq!(defined("ZUC_BAD_WIDTH"), Refusal::Width.number());
     assert_eq!(defined("ZUC_BAD_KEY"), Refusal::Key.number());
+    assert_eq!(defined("ZUC_BAD_FIELD"), Refusal::Field.number());
     assert_eq!(defined("ZUC_BAD_IV"), Refusal::Iv.number());
     assert_eq!(defined("ZUC_BAD_STATE"), Refusal::State.number());
     assert_eq!(defined("ZUC_BAD_BITS"), Refusal::Bits.number());

@@ -72,6 +72,88 @@ fn the_lowest_number_is_given() {
     assert_eq!(tag, [0; 2]);
 }
 
+/// What a strict form answers, where the plain one answers so.
+fn in_field<T>(bearer: u8, direction: u8, plain: T) -> Result<T, Refusal> {
+    if bearer <= 31 && direction <= 1 {
+        Ok(plain)
+    } else {
+        Err(Refusal::Field)
+    }
+}
+
+/// Request 2026-04: 8 exactly if the bearer is above 31 or the direction above 1, and else the
+/// plain forms' answers.
+#[test]
+fn strict_forms() {
+    let key = &BYTES[..16];
+    for bearer in 0..=u8::MAX {
+        for direction in [0, 1, 2, 3, 128, 255] {
+            let word = Eea3Keystream::try_new(1, bearer, direction, key).map(|mut z| z.generate());
+            let strict =
+                Eea3Keystream::new_strict(1, bearer, direction, key).map(|mut z| z.generate());
+            assert_eq!(strict, in_field(bearer, direction, word.unwrap()));
+
+            let tag = Eia3Mac::try_compute(1, bearer, direction, key, &BYTES[..9], 70).unwrap();
+            let strict = Eia3Mac::compute_strict(1, bearer, direction, key, &BYTES[..9], 70);
+            assert_eq!(strict, in_field(bearer, direction, tag));
+            let strict = Eia3Mac::new_strict(1, bearer, direction, key)
+                .map(|mac| mac.finish(&BYTES[..9], 70));
+            assert_eq!(strict, in_field(bearer, direction, tag));
+
+            let (mut plain, mut strict) = ([7; 9], [7; 9]);
+            let words = eea3::try_eea3_xor_inplace(1, bearer, direction, key, &mut plain, 64);
+            let answer = eea3::eea3_xor_inplace_strict(1, bearer, direction, key, &mut strict, 64);
+            assert_eq!(answer, in_field(bearer, direction, words.unwrap()));
+            assert_eq!(strict, in_field(bearer, direction, plain).unwrap_or([7; 9]));
+            (plain, strict) = ([7; 9], [7; 9]);
+            let words = eea3::try_eea3_xor_clean(1, bearer, direction, key, &mut plain, 64);
+            let answer = eea3::eea3_xor_clean_strict(1, bearer, direction, key, &mut strict, 64);
+            assert_eq!(answer, in_field(bearer, direction, words.unwrap()));
+            assert_eq!(strict, in_field(bearer, direction, plain).unwrap_or([7; 9]));
+        }
+    }
+}
+
+/// 8 is checked directly after 2, and before 5.
+#[test]
+fn strict_refusals_in_order() {
+    let cases = [
+        (15, 32, Refusal::Key),
+        (16, 32, Refusal::Field),
+        (16, 31, Refusal::Bits),
+    ];
+    for (key, bearer, refusal) in cases {
+        let (key, mut data) = (&BYTES[..key], [1, 2, 3]);
+        let answers = [
+            eea3::eea3_xor_inplace_strict(1, bearer, 0, key, &mut data, 25).err(),
+            eea3::eea3_xor_clean_strict(1, bearer, 0, key, &mut data, 25).err(),
+            Eia3Mac::compute_strict(1, bearer, 0, key, &data, 25).err(),
+        ];
+        assert_eq!((answers, data), ([Some(refusal); 3], [1, 2, 3]));
+    }
+}
+
+/// In one call, and by a start and a mask of it.
+#[test]
+fn eea3_in_one_call() {
+    for len in 0..=20_usize {
+        for bits in 0..=8 * len {
+            let (mut once, mut steps) = ([0x5a; 20], [0x5a; 20]);
+            let start = || Eea3Keystream::new(1, 40, 3, &[6; 16]);
+            let words = start().try_xor_inplace(&mut steps[..len], bits);
+            let at_once = eea3::try_eea3_xor_inplace(1, 40, 3, &[6; 16], &mut once[..len], bits);
+            assert_eq!((at_once, once), (words, steps), "{len} bytes, {bits} bits");
+            let words = start().try_xor_clean(&mut steps[..len], bits);
+            let at_once = eea3::try_eea3_xor_clean(1, 40, 3, &[6; 16], &mut once[..len], bits);
+            assert_eq!(
+                (at_once, once),
+                (words, steps),
+                "clean, {len} bytes, {bits} bits"
+            );
+        }
+    }
+}
+
 #[test]
 fn a_refused_mask_alters_nothing() {
     let start = || Zuc128Keystream::new(&[1; 16], &[2; 16]);

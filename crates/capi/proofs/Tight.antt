@@ -14,12 +14,14 @@ use Rattle.standard.proofs.Promise.{AsksNothing, Tight}
 use Rattle.capi.proofs.generators.zuc128_start.Reads as zuc128-start
 use Rattle.capi.proofs.generators.zuc256_start.Reads as zuc256-start
 use Rattle.capi.proofs.generators.eea3_start.Reads as eea3-start
+use Rattle.capi.proofs.generators.eea3_start_strict.Reads as eea3-start-strict
 use Rattle.capi.proofs.generators.zuc_draw.Reads as zuc-draw
 use Rattle.capi.proofs.generators.zuc_words.Reads as zuc-words
 use Rattle.capi.proofs.generators.zuc_mask_crate.Reads as zuc-mask-crate
 use Rattle.capi.proofs.generators.zuc_mask_clean.Reads as zuc-mask-clean
 use Rattle.capi.proofs.tags.zuc128_tag_start.Reads as zuc128-tag-start
 use Rattle.capi.proofs.tags.eia3_tag_start.Reads as eia3-tag-start
+use Rattle.capi.proofs.tags.eia3_tag_start_strict.Reads as eia3-tag-start-strict
 use Rattle.capi.proofs.tags.zuc256_tag_start.Reads as zuc256-tag-start
 use Rattle.capi.proofs.tags.zuc128_tag_update.Reads as zuc128-tag-update
 use Rattle.capi.proofs.tags.zuc256_tag_update.Reads as zuc256-tag-update
@@ -27,7 +29,12 @@ use Rattle.capi.proofs.tags.zuc128_tag_finish.Reads as zuc128-tag-finis
 use Rattle.capi.proofs.tags.zuc256_tag_finish.Reads as zuc256-tag-finish
 use Rattle.capi.proofs.tags.zuc128_tag.Reads as zuc128-tag
 use Rattle.capi.proofs.tags.eia3_tag.Reads as eia3-tag
+use Rattle.capi.proofs.tags.eia3_tag_strict.Reads as eia3-tag-strict
 use Rattle.capi.proofs.tags.zuc256_tag.Reads as zuc256-tag
+use Rattle.capi.proofs.eea3.eea3_mask_crate.Reads as eea3-mask-crate
+use Rattle.capi.proofs.eea3.eea3_mask_clean.Reads as eea3-mask-clean
+use Rattle.capi.proofs.eea3.eea3_mask_crate_strict.Reads as eea3-mask-crate-strict
+use Rattle.capi.proofs.eea3.eea3_mask_clean_strict.Reads as eea3-mask-clean-strict
 use Rattle.capi.proofs.links.zuc_guard_accept as zuc-guard-accept
 use Rattle.capi.proofs.links.zuc_guard_rekey as zuc-guard-rekey
 use Rattle.capi.specs.Generators.{DrawArray, MaskArray, StartArray, WordsArray}
@@ -36,6 +43,7 @@ use Rattle.guard.proofs.Tight.{told-tight}
 use Rattle.guard.specs.declared.Link.{Link}
 use Rattle.guard.specs.Outcome.{Guarded, tableOf}
 use Rattle.mac.specs.Calls.{Once}
+use Rattle.mask.specs.Once.{Once as MaskOnce}
 
 pub tight-zuc128-start : Tight {Seen = StartArray} zuc128-start.Post (λ κs r s. record { number = r; array = now (s .0) })
 tight-zuc128-start κs a r r′ s s′ p q = p ∙ sym q
@@ -54,6 +62,12 @@ tight-eea3-start κs a r r′ s s′ p q = p ∙ sym q
 
 pub asks-nothing-eea3-start : AsksNothing eea3-start.Pre
 asks-nothing-eea3-start κs a = tt
+
+pub tight-eea3-start-strict : Tight {Seen = StartArray} eea3-start-strict.Post (λ κs r s. record { number = r; array = now (s .0) })
+tight-eea3-start-strict κs a r r′ s s′ p q = p ∙ sym q
+
+pub asks-nothing-eea3-start-strict : AsksNothing eea3-start-strict.Pre
+asks-nothing-eea3-start-strict κs a = tt
 
 pub tight-zuc-draw : Tight {Seen = DrawArray} zuc-draw.Post (λ κs r s. record { number = r; word = now (s .1 .0); array = now (s .0) })
 tight-zuc-draw κs a r r′ s s′ p q = p ∙ sym q
@@ -90,6 +104,12 @@ tight-eia3-tag-start κs a r r′ s s′ p q = p ∙ sym q
 
 pub asks-nothing-eia3-tag-start : AsksNothing eia3-tag-start.Pre
 asks-nothing-eia3-tag-start κs a = tt
+
+pub tight-eia3-tag-start-strict : Tight {Seen = TagArray} eia3-tag-start-strict.Post (λ κs r s. record { number = r; array = now (s .0) })
+tight-eia3-tag-start-strict κs a r r′ s s′ p q = p ∙ sym q
+
+pub asks-nothing-eia3-tag-start-strict : AsksNothing eia3-tag-start-strict.Pre
+asks-nothing-eia3-tag-start-strict κs a = tt
 
 pub tight-zuc256-tag-start : Tight {Seen = TagArray} zuc256-tag-start.Post (λ κs r s. record { number = r; array = now (s .0) })
 tight-zuc256-tag-start κs a r r′ s s′ p q = p ∙ sym q
@@ -133,11 +153,42 @@ tight-eia3-tag κs a r r′ s s′ p q = p ∙ sym q
 pub asks-nothing-eia3-tag : AsksNothing eia3-tag.Pre
 asks-nothing-eia3-tag κs a = tt
 
+pub tight-eia3-tag-strict : Tight {Seen = Once (List ℕ)} eia3-tag-strict.Post (λ κs r s. record { number = r; tag = now (s .1 .1 .1 .1 .1 .1 .0) })
+tight-eia3-tag-strict κs a r r′ s s′ p q = p ∙ sym q
+
+pub asks-nothing-eia3-tag-strict : AsksNothing eia3-tag-strict.Pre
+asks-nothing-eia3-tag-strict κs a = tt
+
 pub tight-zuc256-tag : Tight {Seen = Once (List ℕ)} zuc256-tag.Post (λ κs r s. record { number = r; tag = now (s .1 .1 .1 .1 .1 .0) })
 tight-zuc256-tag κs a r r′ s s′ p q = p ∙ sym q
 
 pub asks-nothing-zuc256-tag : AsksNothing zuc256-tag.Pre
 asks-nothing-zuc256-tag κs a = tt
+
+-- EEA3 in one call: the number, the count and the buffer
+pub tight-eea3-mask-crate : Tight {Seen = MaskOnce} eea3-mask-crate.Post (λ κs r s. record { number = r; count = now (s .1 .1 .1 .1 .1 .1 .0); buffer = now (s .1 .1 .1 .1 .0) })
+tight-eea3-mask-crate κs a r r′ s s′ p q = p ∙ sym q
+
+pub asks-nothing-eea3-mask-crate : AsksNothing eea3-mask-crate.Pre
+asks-nothing-eea3-mask-crate κs a = tt
+
+pub tight-eea3-mask-clean : Tight {Seen = MaskOnce} eea3-mask-clean.Post (λ κs r s. record { number = r; count = now (s .1 .1 .1 .1 .1 .1 .0); buffer = now (s .1 .1 .1 .1 .0) })
+tight-eea3-mask-clean κs a r r′ s s′ p q = p ∙ sym q
+
+pub asks-nothing-eea3-mask-clean : AsksNothing eea3-mask-clean.Pre
+asks-nothing-eea3-mask-clean κs a = tt
+
+pub tight-eea3-mask-crate-strict : Tight {Seen = MaskOnce} eea3-mask-crate-strict.Post (λ κs r s. record { number = r; count = now (s .1 .1 .1 .1 .1 .1 .0); buffer = now (s .1 .1 .1 .1 .0) })
+tight-eea3-mask-crate-strict κs a r r′ s s′ p q = p ∙ sym q
+
+pub asks-nothing-eea3-mask-crate-strict : AsksNothing eea3-mask-crate-strict.Pre
+asks-nothing-eea3-mask-crate-strict κs a = tt
+
+pub tight-eea3-mask-clean-strict : Tight {Seen = MaskOnce} eea3-mask-clean-strict.Post (λ κs r s. record { number = r; count = now (s .1 .1 .1 .1 .1 .1 .0); buffer = now (s .1 .1 .1 .1 .0) })
+tight-eea3-mask-clean-strict κs a r r′ s s′ p q = p ∙ sym q
+
+pub asks-nothing-eea3-mask-clean-strict : AsksNothing eea3-mask-clean-strict.Pre
+asks-nothing-eea3-mask-clean-strict κs a = tt
 
 -- the guard: the number returned, and the table
 links-tight : (r r′ : ℕ) (ys ys′ : List Link) → _≡_ {A = Guarded} (record { number = r; table = tableOf ys }) (record { number = r′; table = tableOf ys′ })

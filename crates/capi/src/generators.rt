@@ -6,7 +6,7 @@ ghost use Prim.Native.Nat.{ℕ, _^_, _<_};
 ghost use Rattle.capi_arrays.specs.Arrays.{heldIn};
 ghost use Rattle.capi.specs.Generators.{drawArray, maskArray, startArray, wordsArray};
 ghost use Rattle.keystream.specs.Draws.{drawOutcome, fillOutcome};
-ghost use Rattle.keystream.specs.Starts.{startTold, start₁₂₈, start₂₅₆, start-EEA3};
+ghost use Rattle.keystream.specs.Starts.{startTold, start₁₂₈, start₂₅₆, start-EEA3, strictStart-EEA3};
 ghost use Rattle.mask.specs.Outcome.{cleanOutcome, crateOutcome, told};
 ghost use Rattle.standard.specs.Loading.{d-keystream};
 use capi_answers::ACCEPTED;
@@ -63,6 +63,23 @@ pub extern "C" fn eea3_start(
     ensures { λ r. ⌜ record { number = r; array = now (state .exit) } ≡ startArray (start-EEA3 count bearer direction (now (key .entry))) ⌝ }
 {
     put_start(state, keystream::eea3::new(count, bearer, direction, key))
+}
+
+// The same of a bearer and a direction as given, or BAD_KEY, BAD_FIELD.
+#[no_mangle]
+pub extern "C" fn eea3_start_strict(
+    state: &mut [u32; 20],
+    count: u32,
+    bearer: u8,
+    direction: u8,
+    key: &[u8],
+) -> u32
+    ensures { λ r. ⌜ record { number = r; array = now (state .exit) } ≡ startArray (strictStart-EEA3 count bearer direction (now (key .entry))) ⌝ }
+{
+    put_start(
+        state,
+        keystream::eea3::new_strict(count, bearer, direction, key),
+    )
 }
 
 // The next word, or BAD_STATE, SPENT. The draw is made in the array itself.

@@ -3,7 +3,7 @@ ghost use mathlib.Core.Path.{_≡_};
 ghost use Rattle.capi_arrays.specs.Arrays.{storedIn};
 ghost use Rattle.capi.specs.Tags.{closingArray, tagArray, twoClosing, twoOnce};
 ghost use Rattle.keystream.specs.Starts.{startNumber};
-ghost use Rattle.mac.specs.Calls.{finishOutcome-128, finishOutcome-256, onceOutcome-128, onceOutcome-256, onceOutcome-EIA3, onceTold-128, startOutcome-128, startOutcome-256, startOutcome-EIA3, updateNumber, updateOutcome};
+ghost use Rattle.mac.specs.Calls.{finishOutcome-128, finishOutcome-256, onceOutcome-128, onceOutcome-256, onceOutcome-EIA3, onceTold-128, startOutcome-128, startOutcome-256, startOutcome-EIA3, strictOnceOutcome-EIA3, strictStartOutcome-EIA3, updateNumber, updateOutcome};
 ghost use Rattle.standard.specs.States.{formed-128, formed, tagFormed};
 ghost use Rattle.mac.specs.Reading.{taggedOf};
 use capi_answers::number_128;
@@ -58,6 +58,25 @@ pub extern "C" fn eia3_tag_start(
     ensures { λ r. ⌜ record { number = r; array = now (state .exit) } ≡ tagArray (startOutcome-EIA3 count bearer direction (now (key .entry))) ⌝ }
 {
     let start = mac::eia3::new(count, bearer, direction, key);
+    let mac = start.mac;
+    let s = mac.state;
+    let drawn = mac.count;
+    let answer = start.answer;
+    put_start(state, answer, s, drawn)
+}
+
+// The same of a bearer and a direction as given, or BAD_KEY, BAD_FIELD.
+#[no_mangle]
+pub extern "C" fn eia3_tag_start_strict(
+    state: &mut [u64; 21],
+    count: u32,
+    bearer: u8,
+    direction: u8,
+    key: &[u8],
+) -> u32
+    ensures { λ r. ⌜ record { number = r; array = now (state .exit) } ≡ tagArray (strictStartOutcome-EIA3 count bearer direction (now (key .entry))) ⌝ }
+{
+    let start = mac::eia3::new_strict(count, bearer, direction, key);
     let mac = start.mac;
     let s = mac.state;
     let drawn = mac.count;
@@ -228,6 +247,25 @@ pub extern "C" fn eia3_tag(
 {
     put_once_128(
         mac::eia3::compute(count, bearer, direction, key, msg, bits),
+        tag,
+    )
+}
+
+// The same of a bearer and a direction as given, or BAD_KEY, BAD_FIELD, BAD_BITS, SPENT.
+#[no_mangle]
+pub extern "C" fn eia3_tag_strict(
+    count: u32,
+    bearer: u8,
+    direction: u8,
+    key: &[u8],
+    msg: &[u8],
+    bits: usize,
+    tag: &mut [u64; 2],
+) -> u32
+    ensures { λ r. ⌜ record { number = r; tag = now (tag .exit) } ≡ twoOnce (strictOnceOutcome-EIA3 count bearer direction (now (key .entry)) (now (msg .entry)) bits) ⌝ }
+{
+    put_once_128(
+        mac::eia3::compute_strict(count, bearer, direction, key, msg, bits),
         tag,
     )
 }

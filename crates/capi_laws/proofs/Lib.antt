@@ -2,3 +2,4 @@ pub mod Runs
 pub mod Theorems
 pub mod Cuttings
 pub mod Called
+pub mod Strict
