@@ -10,6 +10,9 @@
 //! limit: [`limits`] says which are tried about it, and [`spent`] reaches it. Clean masks in
 //! turn are held to one long mask by [`blocks`], and masked once per hop by [`hops`].
 //!
+//! Strict forms and EEA3 in one call are held to the crate, and to the request's refusals, by
+//! [`fields`].
+//!
 //! The guard is not the crate's: a [`walk::Walk`] is a list of calls on one table, held
 //! to a model of sets; [`walks`] says which are tried.
 
@@ -17,6 +20,7 @@ pub mod blocks;
 pub mod check;
 pub mod clock;
 pub mod drawn;
+pub mod fields;
 pub mod hex;
 pub mod hops;
 pub mod input;

@@ -30,6 +30,13 @@ RIGHT(zuc256_tag_finish);
 RIGHT(zuc128_tag);
 RIGHT(eia3_tag);
 RIGHT(zuc256_tag);
+RIGHT(eea3_start_strict);
+RIGHT(eia3_tag_start_strict);
+RIGHT(eia3_tag_strict);
+RIGHT(eea3_mask_crate);
+RIGHT(eea3_mask_clean);
+RIGHT(eea3_mask_crate_strict);
+RIGHT(eea3_mask_clean_strict);
 RIGHT(zuc_guard_accept);
 RIGHT(zuc_guard_rekey);
 
@@ -518,6 +525,166 @@ uint32_t zuc_guard_rekey(struct zuc_link *links, size_t len, size_t at)
     /* fault 30: a re-keyed link takes COUNT 0 for accepted */
     if (FAULT == 30 && refusal == 0)
         links[at].accepted = 1;
+    return refusal;
+}
+#endif
+
+/* Whether both numbers are in their fields. */
+static inline int fits(uint8_t bearer, uint8_t direction)
+{
+    return bearer <= 31 && direction <= 1;
+}
+
+#if FAULT >= 67 && FAULT <= 70
+uint32_t eea3_start_strict(uint32_t state[ZUC_STATE_WORDS],
+                           uint32_t count, uint8_t bearer, uint8_t direction,
+                           const uint8_t *key, size_t key_len)
+{
+    uint32_t before[ZUC_STATE_WORDS];
+    memcpy(before, state, sizeof before);
+
+    /* fault 67: a strict start takes a bearer of 32 for 0 */
+    if (FAULT == 67 && bearer == 32)
+        bearer = 0;
+
+    /* fault 68: a strict start takes a direction of 2 for 0 */
+    if (FAULT == 68 && direction == 2)
+        direction = 0;
+    uint32_t refusal = right_eea3_start_strict(state, count, bearer, direction, key, key_len);
+
+    /* fault 69: 8 is checked before 2 */
+    if (FAULT == 69 && refusal == ZUC_BAD_KEY && !fits(bearer, direction))
+        return ZUC_BAD_FIELD;
+
+    /* fault 70: a start that is refused by 8 leaves the state as it came */
+    if (FAULT == 70 && refusal == ZUC_BAD_FIELD)
+        memcpy(state, before, sizeof before);
+    return refusal;
+}
+#endif
+
+#if FAULT == 71 || FAULT == 72
+uint32_t eia3_tag_start_strict(uint64_t state[ZUC_TAG_WORDS],
+                               uint32_t count, uint8_t bearer, uint8_t direction,
+                               const uint8_t *key, size_t key_len)
+{
+    /* fault 71: a strict tag start trims, and goes on */
+    if (FAULT == 71)
+        return right_eia3_tag_start_strict(state, count, bearer % 32, direction % 2, key, key_len);
+
+    /* fault 72: a strict tag start refuses a bearer of 31 */
+    if (FAULT == 72 && key_len == 16 && bearer == 31) {
+        memset(state, 0, sizeof(uint64_t[ZUC_TAG_WORDS]));
+        return ZUC_BAD_FIELD;
+    }
+    return right_eia3_tag_start_strict(state, count, bearer, direction, key, key_len);
+}
+#endif
+
+#if FAULT >= 73 && FAULT <= 75
+uint32_t eia3_tag_strict(uint32_t count, uint8_t bearer, uint8_t direction,
+                         const uint8_t *key, size_t key_len,
+                         const uint8_t *msg, size_t len, size_t bits, uint64_t tag[2])
+{
+    /* fault 73: a strict tag trims, and goes on */
+    if (FAULT == 73)
+        return eia3_tag(count, bearer, direction, key, key_len, msg, len, bits, tag);
+    uint32_t refusal = right_eia3_tag_strict(count, bearer, direction, key, key_len, msg, len, bits, tag);
+
+    /* fault 74: of a tag 5 is checked before 8 */
+    if (FAULT == 74 && refusal == ZUC_BAD_FIELD && bits / 8 + (bits % 8 != 0) > len)
+        return ZUC_BAD_BITS;
+
+    /* fault 75: of a tag 16 is checked before 8 */
+    if (FAULT == 75 && refusal == ZUC_BAD_FIELD && bits / 8 <= len && bits > (size_t)1 << 32)
+        return ZUC_SPENT;
+    return refusal;
+}
+#endif
+
+#if FAULT >= 76 && FAULT <= 79
+uint32_t eea3_mask_crate(uint32_t count, uint8_t bearer, uint8_t direction,
+                         const uint8_t *key, size_t key_len,
+                         uint8_t *buf, size_t len, size_t bits, size_t *drawn)
+{
+    /* fault 76: the plain one-call refuses what does not fit */
+    if (FAULT == 76)
+        return eea3_mask_crate_strict(count, bearer, direction, key, key_len, buf, len, bits, drawn);
+
+    /* fault 77: the plain one-call masks with the IV of a bearer that is not trimmed */
+    if (FAULT == 77)
+        direction |= bearer >> 5 & 1;
+    uint32_t refusal = right_eea3_mask_crate(count, bearer, direction, key, key_len, buf, len, bits, drawn);
+
+    /* fault 78: crate mode in one call says the words of clean mode */
+    if (FAULT == 78 && refusal == 0)
+        *drawn = bits / 32 + (bits % 32 != 0);
+
+    /* fault 79: in one call 16 is checked before 5 */
+    if (FAULT == 79 && refusal == ZUC_BAD_BITS && len / 4 + 1 > LIMIT)
+        return ZUC_SPENT;
+    return refusal;
+}
+#endif
+
+#if FAULT >= 80 && FAULT <= 82
+uint32_t eea3_mask_clean(uint32_t count, uint8_t bearer, uint8_t direction,
+                         const uint8_t *key, size_t key_len,
+                         uint8_t *buf, size_t len, size_t bits, size_t *drawn)
+{
+    /* fault 80: clean mode in one call leaves byte L/8 when L is a multiple of 8 */
+    if (FAULT == 80) {
+        uint32_t refusal = eea3_mask_crate(count, bearer, direction, key, key_len, buf, len, bits, drawn);
+        *drawn = refusal == 0 ? bits / 32 + (bits % 32 != 0) : 0;
+        return refusal;
+    }
+    uint32_t refusal = right_eea3_mask_clean(count, bearer, direction, key, key_len, buf, len, bits, drawn);
+
+    /* fault 81: clean mode in one call draws a word for L = 0 */
+    if (FAULT == 81 && refusal == 0 && bits == 0)
+        *drawn = 1;
+
+    /* fault 82: in one call a bearer of 32 or more is taken for 31 */
+    if (FAULT == 82 && refusal == 0 && bearer > 31) {
+        right_eea3_mask_clean(count, bearer, direction, key, key_len, buf, len, bits, drawn);
+        right_eea3_mask_clean(count, 31, direction, key, key_len, buf, len, bits, drawn);
+    }
+    return refusal;
+}
+#endif
+
+#if FAULT == 83 || FAULT == 84
+uint32_t eea3_mask_crate_strict(uint32_t count, uint8_t bearer, uint8_t direction,
+                                const uint8_t *key, size_t key_len,
+                                uint8_t *buf, size_t len, size_t bits, size_t *drawn)
+{
+    size_t before = *drawn;
+    uint32_t refusal = right_eea3_mask_crate_strict(count, bearer, direction, key, key_len, buf, len, bits, drawn);
+
+    /* fault 83: in one call 5 is checked before 8 */
+    if (FAULT == 83 && refusal == ZUC_BAD_FIELD && bits / 8 + (bits % 8 != 0) > len)
+        return ZUC_BAD_BITS;
+
+    /* fault 84: a strict one-call that is refused says nothing of the words drawn */
+    if (FAULT == 84 && refusal != 0)
+        *drawn = before;
+    return refusal;
+}
+#endif
+
+#if FAULT == 85 || FAULT == 86
+uint32_t eea3_mask_clean_strict(uint32_t count, uint8_t bearer, uint8_t direction,
+                                const uint8_t *key, size_t key_len,
+                                uint8_t *buf, size_t len, size_t bits, size_t *drawn)
+{
+    /* fault 85: the strict one-call trims, and goes on */
+    if (FAULT == 85)
+        return eea3_mask_clean(count, bearer, direction, key, key_len, buf, len, bits, drawn);
+    uint32_t refusal = right_eea3_mask_clean_strict(count, bearer, direction, key, key_len, buf, len, bits, drawn);
+
+    /* fault 86: a one-call that is refused by 8 has cleared the first byte */
+    if (FAULT == 86 && refusal == ZUC_BAD_FIELD && len > 0 && len < 1000)
+        buf[0] = 0;
     return refusal;
 }
 #endif

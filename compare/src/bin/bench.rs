@@ -14,6 +14,7 @@ use compare::clock::thread_time;
 use compare::library;
 use compare::plot::{plot, Curve};
 use compare::rng::Rng;
+use yegetmur::capi::{self, STATE_WORDS};
 use yegetmur::{Guard, Link};
 
 /// Bytes of a message or a buffer.
@@ -87,6 +88,7 @@ fn main() {
     println!("{}", machine());
     let mut buffers = Buffers { bytes: Rng::new(1).bytes(1 << 20), words: vec![0; 1 << 18] };
     let curves = all_sizes(options.rounds, &mut buffers);
+    one_call(options.rounds, &mut buffers);
     single_draw(options.rounds, &mut buffers);
     guard_call(options.rounds, &mut buffers);
     if let Some(file) = options.svg {
@@ -136,6 +138,25 @@ fn all_sizes(rounds: usize, buffers: &mut Buffers) -> Vec<Curve> {
 fn row(name: &str, size: usize, crate_ns: f64, port_ns: f64) {
     let ratio = port_ns / crate_ns;
     println!("{name:<24} {size:>8} {crate_ns:>11.3} {port_ns:>11.3} {ratio:>7.3}");
+}
+
+/// EEA3 of 64 bytes through C: a start and a mask of it, and in one call; no crate.
+fn one_call(rounds: usize, buffers: &mut Buffers) {
+    let two: Work = &mut |buffers, size| {
+        let (mut state, mut count) = ([0; STATE_WORDS], 0);
+        black_box(capi::eea3_start(&mut state, 7, 5, 1, &KEY));
+        let buffer = &mut buffers.bytes[..size];
+        black_box(capi::zuc_mask_clean(&mut state, buffer, 8 * size, &mut count));
+    };
+    let one: Work = &mut |buffers, size| {
+        let (buffer, mut drawn) = (&mut buffers.bytes[..size], 0);
+        black_box(capi::eea3_mask_clean(7, 5, 1, &KEY, buffer, 8 * size, &mut drawn));
+    };
+    println!("{:<24} {:>8} {:>11} {:>11} {:>7}", "", "bytes", "two ns", "one ns", "ratio");
+    for size in [16, 64] {
+        let (two_ns, one_ns) = least(rounds, buffers, size, two, one);
+        row("EEA3, in one call", size, two_ns, one_ns);
+    }
 }
 
 /// One word at a time, as a call of its own.

@@ -7,6 +7,7 @@ use std::env::args;
 use std::process::exit;
 use std::time::{Duration, SystemTime, UNIX_EPOCH};
 
+use compare::fields::{Fields, FIELDS};
 use compare::input::Input;
 use compare::plan::{self, SECTIONS};
 use compare::report::Report;
@@ -32,6 +33,10 @@ fn main() {
     if options.stop && !guarded {
         exit(1);
     }
+    let strict = fields(&mut Rng::new(options.seed), &options);
+    if options.stop && !strict {
+        exit(1);
+    }
     let limited = limit(&mut Rng::new(options.seed), &options);
     if options.stop && !limited {
         exit(1);
@@ -55,7 +60,7 @@ fn main() {
         }
     }
     let same = report.end(options.seed);
-    exit(i32::from(!(guarded && limited && same)));
+    exit(i32::from(!(guarded && strict && limited && same)));
 }
 
 /// The guard, by walks over tables of links; answers whether all was the same.
@@ -73,6 +78,19 @@ fn guard(rng: &mut Rng, options: &Options) -> bool {
         let end = report.elapsed() + options.long / 10;
         while report.elapsed() < end {
             report.try_input(walks::random(rng));
+        }
+    }
+    report.end(options.seed)
+}
+
+/// Strict forms, and EEA3 in one call; answers whether all was the same.
+fn fields(rng: &mut Rng, options: &Options) -> bool {
+    let mut report = Report::<Fields>::new();
+    for (name, inputs) in FIELDS {
+        report.section(name);
+        inputs(rng, &mut |fields| report.try_input(fields));
+        if options.stop && report.differences() > 0 {
+            break;
         }
     }
     report.end(options.seed)

@@ -1,6 +1,11 @@
 // Lines that call, and what they tell. What a call writes to is lent full of sevens.
 use super::in_place::drawn;
+use capi::eea3::eea3_mask_clean;
+use capi::eea3::eea3_mask_clean_strict;
+use capi::eea3::eea3_mask_crate;
+use capi::eea3::eea3_mask_crate_strict;
 use capi::generators::eea3_start;
+use capi::generators::eea3_start_strict;
 use capi::generators::zuc_draw;
 use capi::generators::zuc_mask_clean;
 use capi::generators::zuc_mask_crate;
@@ -9,6 +14,8 @@ use capi::generators::zuc128_start;
 use capi::generators::zuc256_start;
 use capi::tags::eia3_tag;
 use capi::tags::eia3_tag_start;
+use capi::tags::eia3_tag_start_strict;
+use capi::tags::eia3_tag_strict;
 use capi::tags::zuc128_tag;
 use capi::tags::zuc128_tag_finish;
 use capi::tags::zuc128_tag_start;
@@ -60,6 +67,23 @@ fn started(
         4 => eia3_tag_start(t, count, bearer, direction, key),
         _ => zuc256_tag_start(t, n[0] as usize, key, iv),
     }
+}
+
+// Kinds 27 and 28, strict starts: the number.
+fn started_strictly(
+    kind: usize,
+    n: [u64; 4],
+    key: &[u8],
+    g: &mut Generator,
+    t: &mut TagArray,
+) -> u32 {
+    let count = (n[0] % 0x1_0000_0000) as u32;
+    let bearer = (n[1] % 256) as u8;
+    let direction = (n[2] % 256) as u8;
+    if kind == 27 {
+        return eea3_start_strict(g, count, bearer, direction, key);
+    }
+    eia3_tag_start_strict(t, count, bearer, direction, key)
 }
 
 // One draw after another into a buffer; of their numbers the last that was no 0.
@@ -130,6 +154,35 @@ fn masked(
     told::mask(number, count, &buf[0..len], out)
 }
 
+// EEA3 in one call, in either mode, plain and strict.
+fn mask_once(kind: usize, n: [u64; 4], key: &[u8], buf: &mut [u8], drawn: &mut usize) -> u32 {
+    let count = (n[0] % 0x1_0000_0000) as u32;
+    let bearer = (n[1] % 256) as u8;
+    let direction = (n[2] % 256) as u8;
+    let bits = n[3] as usize;
+    match kind {
+        30 => eea3_mask_crate(count, bearer, direction, key, buf, bits, drawn),
+        31 => eea3_mask_clean(count, bearer, direction, key, buf, bits, drawn),
+        32 => eea3_mask_crate_strict(count, bearer, direction, key, buf, bits, drawn),
+        _ => eea3_mask_clean_strict(count, bearer, direction, key, buf, bits, drawn),
+    }
+}
+
+// Kinds 30 to 33, the same: the number, the words drawn and the buffer.
+fn masked_once(
+    kind: usize,
+    n: [u64; 4],
+    key: &[u8],
+    bytes: &[u8],
+    buf: &mut [u8],
+    out: &mut [u8],
+) -> usize {
+    let len = least(put(bytes, buf, 0), buf.len());
+    let mut drawn: usize = 7;
+    let number = mask_once(kind, n, key, &mut buf[0..len], &mut drawn);
+    told::mask(number, drawn, &buf[0..len], out)
+}
+
 // The exports of ZUC-256, or those of ZUC-128 and EIA3.
 fn update(wide: bool, t: &mut TagArray, msg: &[u8]) -> u32 {
     if wide {
@@ -186,7 +239,7 @@ fn fed(kind: usize, n: [u64; 4], msg: &[u8], t: &mut TagArray, out: &mut [u8]) -
     }
 }
 
-// Kinds 17 to 19, one-shots: the number, and the tag.
+// Kinds 17 to 19 and 29, one-shots: the number, and the tag.
 fn once(kind: usize, n: [u64; 4], a: &[u8], b: &[u8], c: &[u8], out: &mut [u8]) -> usize {
     let count = (n[0] % 0x1_0000_0000) as u32;
     let bearer = (n[1] % 256) as u8;
@@ -195,6 +248,7 @@ fn once(kind: usize, n: [u64; 4], a: &[u8], b: &[u8], c: &[u8], out: &mut [u8]) 
     let number = match kind {
         17 => zuc128_tag(a, b, c, n[0] as usize, &mut tag),
         18 => eia3_tag(count, bearer, direction, a, b, n[3] as usize, &mut tag),
+        29 => eia3_tag_strict(count, bearer, direction, a, b, n[3] as usize, &mut tag),
         _ => zuc256_tag(n[0] as usize, a, b, c, n[1] as usize, &mut tag),
     };
     told::tag(number, tag, out)
@@ -281,6 +335,12 @@ fn made(
             turn(kind, g, t);
             told::done(true, out)
         }
+        27..=28 => told::number(started_strictly(kind, n, a, g, t) as u64, out, 0),
+        29 => once(kind, n, a, b, c, out),
+        30..=33 => {
+            let mut buf = [0u8; 1024];
+            masked_once(kind, n, a, b, &mut buf, out)
+        }
         _ => told::done(set(kind, n[0] as usize, n[1], g, t), out),
     }
 }
@@ -343,7 +403,14 @@ generator word N is W
 tag word N is W
 accept_in highest W accepted W at N count W
 generator turned
-tag turned",
+tag turned
+eea3_start_strict count W bearer N direction N key B
+eia3_tag_start_strict count W bearer N direction N key B
+eia3_tag_strict count W bearer N direction N key B msg B bits N
+eea3_mask_crate count W bearer N direction N key B buf B bits N
+eea3_mask_clean count W bearer N direction N key B buf B bits N
+eea3_mask_crate_strict count W bearer N direction N key B buf B bits N
+eea3_mask_clean_strict count W bearer N direction N key B buf B bits N",
         g,
         t,
         out,
