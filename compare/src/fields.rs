@@ -325,24 +325,26 @@ impl Shrinks for Fields {
         (self.len(), self.key.len().abs_diff(16), self.bits, fields)
     }
 
+    /// A call that is lent zeros stays one that is refused.
     fn steps(&self) -> Vec<Self> {
-        let mut steps = Vec::new();
-        let mut step = |smaller: Self| steps.push(smaller);
+        let Self { bearer, direction, bits, .. } = *self;
+        let mut steps = vec![
+            Self { key: vec![0; 16], ..self.clone() },
+            Self { count: 0, ..self.clone() },
+            Self { bearer: 0, ..self.clone() },
+            Self { bearer: bearer.saturating_sub(1), ..self.clone() },
+            Self { direction: 0, ..self.clone() },
+            Self { direction: direction.saturating_sub(1), ..self.clone() },
+        ];
+        if self.zeros > 0 {
+            steps.push(Self { zeros: 0, bits: bits.min(8 * self.data.len() + 1), ..self.clone() });
+            return steps;
+        }
         let half = self.data.len() / 2;
-        step(Self { key: vec![0; 16], ..self.clone() });
-        step(Self { zeros: 0, ..self.clone() });
-        step(Self {
-            data: self.data[..half].to_vec(),
-            bits: self.bits.min(8 * half),
-            ..self.clone()
-        });
-        step(Self { bits: self.bits / 2, ..self.clone() });
-        step(Self { bits: self.bits.saturating_sub(1), ..self.clone() });
-        step(Self { count: 0, ..self.clone() });
-        step(Self { bearer: 0, ..self.clone() });
-        step(Self { bearer: self.bearer.saturating_sub(1), ..self.clone() });
-        step(Self { direction: 0, ..self.clone() });
-        step(Self { direction: self.direction.saturating_sub(1), ..self.clone() });
+        let (data, fewer) = (self.data[..half].to_vec(), bits.min(8 * half));
+        steps.push(Self { data, bits: fewer, ..self.clone() });
+        steps.push(Self { bits: bits / 2, ..self.clone() });
+        steps.push(Self { bits: bits.saturating_sub(1), ..self.clone() });
         steps
     }
 }
