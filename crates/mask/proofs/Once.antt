@@ -3,7 +3,7 @@
 use mathlib.Core.Bool.{Bool, true}
 use mathlib.Core.List.{List, [], _∷_, _++_}
 use mathlib.Core.Path.{_≡_, refl, sym, ap, _∙_}
-use Prim.Native.Nat.{ℕ, _*_, _%_, _^_, _<_}
+use Prim.Native.Nat.{ℕ, _%_, _^_, _<_}
 use native.Mathlib.Omega.{arith}
 use borrow.Author.Tests.{eq-eqb, ne-eqb}
 use lib.Dec.{lit<}
@@ -11,7 +11,7 @@ use lib.ListN.{length}
 use Rattle.standard.specs.Confidentiality.{IV-EEA3, bytesIV-EEA3, halfIV-EEA3}
 use Rattle.standard.specs.Generator.{State, keystream, started, wordAt}
 use Rattle.standard.specs.Loading.{load₁₂₈}
-use Rattle.standard.specs.Refusals.{Test, accepted, badBits, badField, badKey, badState, bitsTest, keyTest, limitTest, spent, tested}
+use Rattle.standard.specs.Refusals.{Test, accepted, badBits, badField, badKey, badState, bitsTest, limitTest, spent, tested}
 use Rattle.standard.specs.States.{Counted, Held, fromStart, fromZero, generatorFormed}
 use Rattle.standard.proofs.Cells.{All}
 use Rattle.standard.proofs.Fields.{InField, Strict, as-given-EEA3, in-field}

@@ -17,8 +17,8 @@ use Rattle.standard.specs.Generator.{keystream}
 use Rattle.standard.specs.Loading.{load₁₂₈}
 use Rattle.standard.specs.Notation.{if_then_else_}
 use Rattle.standard.specs.Refusals.{Test, accepted, badField, badKey, bitsTest, fieldTest, keyTest, limitTest, tested}
-use Rattle.standard.specs.States.{Counted, Held, limit}
-use Rattle.standard.proofs.Fields.{InField, OutOfField, bad-field, bad-key, field-failed, field-passed, strict-accepted, strict-answer, strict-fits, strict-refused}
+use Rattle.standard.specs.States.{limit}
+use Rattle.standard.proofs.Fields.{InField, OutOfField, bad-field, bad-key, field-passed, strict-accepted, strict-answer, strict-fits, strict-refused}
 use Rattle.standard.proofs.Masking.{obs-clean, obs-crate}
 use Rattle.standard.proofs.Promise.{Says}
 use Rattle.standard.proofs.Tested.{accepted-exactly, accepted-is}
@@ -27,8 +27,7 @@ use Rattle.keystream.specs.Starts.{StartOutcome, refusedStart, start-EEA3, stri
 use Rattle.keystream.proofs.Strict.{form as start-form, strict-eea3}
 use Rattle.mask.specs.Modes.{maskOutcome, modeMask, modeWords, plain-EEA3, strict-EEA3}
 use Rattle.mask.specs.Once.{Once, clean-EEA3, crate-EEA3, drawnOnce, onceTold, plainTested, refusedOnce, strictClean-EEA3, strictCrate-EEA3, strictTested, withoutState}
-use Rattle.mask.specs.Outcome.{cleanOutcome, crateOutcome}
-use Rattle.mask.proofs.Once.{eea3-starts, form, fresh, once-is, once-key, strict-mask}
+use Rattle.mask.proofs.Once.{eea3-starts, form, once-is, once-key, strict-mask}
 use Rattle.mask.proofs.eea3.mask_clean.Reads as eea3-mask-clean
 use Rattle.mask.proofs.eea3.mask_clean_strict.Reads as eea3-mask-clean-strict
 use Rattle.mask.proofs.eea3.mask_crate.Reads as eea3-mask-crate

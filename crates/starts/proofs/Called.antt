@@ -1,7 +1,7 @@
 -- Calls as Rattle reads their promises leave states that stand behind their start: each promise is the equation that `Stands` asks for.
 -- (Updates of tags are tied in mac_laws/proofs/Called.antt.)
 use denote.Ref.{now}
-use mathlib.Core.Path.{_≡_}
+use mathlib.Core.Path.{_≡_, _∙_}
 use Rattle.standard.specs.Loading.{d-keystream, rowOf}
 use Rattle.standard.specs.Refusals.{accepted}
 use Rattle.standard.proofs.Promise.{Says}
@@ -9,7 +9,9 @@ use Rattle.zuc.specs.Reading.{countedOf}
 use Rattle.zuc_loading.proofs.Loaded.{Bytes}
 use Rattle.zuc_apart.specs.Given.{Given, ofEEA3, zuc128, zuc256}
 use Rattle.keystream.proofs.Tight.{in-place-post}
+use Rattle.keystream.proofs.Strict.{strict-eea3, strict-eea3-accepted}
 use Rattle.keystream.proofs.eea3.new.Reads as eea3-reads
+use Rattle.keystream.proofs.eea3.new_strict.Reads as eea3-strict-reads
 use Rattle.keystream.proofs.fill.Reads as fill-reads
 use Rattle.keystream.proofs.generate.Reads as generate-reads
 use Rattle.keystream.proofs.zuc128.new.Reads as zuc128-reads
@@ -31,6 +33,14 @@ pub called-eea3-new : Says eea3-reads.Post
     (λ κs a r s. Bytes (now (a .1 .1 .1 .0)) → startNumber (r .answer) ≡ accepted
     → Stands (ofEEA3 (a .0) (a .1 .0) (a .1 .1 .0) (now (a .1 .1 .1 .0))) (countedOf (r .state)))
 called-eea3-new κs a r s p k ok = eea3-new (a .0) (a .1 .0) (a .1 .1 .0) k (startTold r) p ok
+
+-- a strict one is the plain one
+pub called-eea3-new-strict : Says eea3-strict-reads.Post
+    (λ κs a r s. Bytes (now (a .1 .1 .1 .0)) → startNumber (r .answer) ≡ accepted
+    → Stands (ofEEA3 (a .0) (a .1 .0) (a .1 .1 .0) (now (a .1 .1 .1 .0))) (countedOf (r .state)))
+called-eea3-new-strict κs a r s p k ok =
+    let fits = strict-eea3-accepted (a .0) (a .1 .0) (a .1 .1 .0) (now (a .1 .1 .1 .0)) (startTold r) p .0 ok .1 in
+    eea3-new (a .0) (a .1 .0) (a .1 .1 .0) k (startTold r) (p ∙ strict-eea3 (a .0) (a .1 .0) (a .1 .1 .0) (now (a .1 .1 .1 .0)) fits) ok
 
 pub called-zuc256-new : Says zuc256-reads.Post
     (λ κs a r s. Bytes (now (a .0)) → Bytes (now (a .1 .0)) → startNumber (r .answer) ≡ accepted

@@ -1,19 +1,17 @@
 -- `mask`: the tests decide the outcome; past them enough bytes are masked, then what lies past the kept bits is cleared: the mode's mask.
 use mathlib.Core.Bool.{true}
-use mathlib.Core.Path.{_≡_, refl, sym, ap, _∙_, subst}
+use mathlib.Core.Path.{_≡_, refl, sym, _∙_}
 use denote.Ref.{now}
 use lib.Dec.{leb}
 use lib.ListN.{length}
 use lib.Seq.{length-take-le}
-use Prim.Native.Nat.{ℕ, _*_, _/_, _+_, _≤_}
+use Prim.Native.Nat.{_*_, _/_, _+_}
 use native.Mathlib.Omega.{arith}
 use borrow.Author.Needs.{needs}
 use borrow.Author.Tests.{leb-true, not-true, not-false}
-use Rattle.standard.specs.Confidentiality.{maskedBuffer}
-use Rattle.standard.specs.Notation.{eachFrom}
 use Rattle.standard.specs.States.{limit}
 use Rattle.zuc.proofs.Turning.{formed-ready}
-use Rattle.mask.specs.Inner.{Enough, cleared}
+use Rattle.mask.specs.Inner.{Enough}
 use Rattle.mask.proofs.Clear.{clear-masked}
 use Rattle.mask.proofs.Outcomes.{bad-bits, too-many, accepted}
 use Rattle.mask.proofs.mask.Statement.{statement}

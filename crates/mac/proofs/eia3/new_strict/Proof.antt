@@ -1,11 +1,11 @@
 -- `mac::eia3::new_strict` meets its contract: the tests of key and fields, and past them the plain start, which then trims nothing.
 use denote.Ref.{now}
-use mathlib.Core.Path.{_∙_, ap, sym}
+use mathlib.Core.Path.{_∙_, sym}
 use borrow.Author.Needs.{needs}
 use borrow.Author.Tests.{not-false, not-true}
 use Rattle.keystream.specs.Starts.{startNumber}
 use Rattle.standard.proofs.Fields.{bad-field, bad-key, field-passed}
-use Rattle.mac.specs.Calls.{Outcome, strictStartOutcome-EIA3}
+use Rattle.mac.specs.Calls.{strictStartOutcome-EIA3}
 use Rattle.mac.proofs.Strict.{start-form, strict-eia3}
 use Rattle.mac.proofs.eia3.new_strict.Statement.{statement}
 use Rattle.mac.proofs.eia3.new_strict.Tie as tie
