@@ -17,7 +17,8 @@ use Rattle.mac_registers.specs.Stored.{keyOf, keyWords, packed, tagOf, tagWords
 use Rattle.standard.specs.States.{Held, Stored, moved}
 use Rattle.mac_registers.specs.Tagging.{Tagging, fed, updated}
 use Rattle.mac_registers.proofs.Cutting.{updated-block, updated-on}
-use Rattle.mac_registers.proofs.Widths.{moved-up, block-bits}
+use Rattle.standard.proofs.Register.{shl-keeps}
+use Rattle.mac_registers.proofs.Widths.{block-bits}
 
 abbrev pub idle : Held → ℕ → ℕ → Tagging
 idle σ key tag = record { generator = σ; key = key; tag = tag; waiting = [] }
@@ -30,7 +31,7 @@ fed-word σ j key tag sum w block es ew =
     λ i. record {
       generator = sym (moved-moved j 1 σ) i;
       key =
-          (ap (λ (x : ℕ). x + w) (sym (moved-up 32 key))
+          (ap (λ (x : ℕ). x + w) (sym (shl-keeps key 32 32))
           ∙ ap (λ (x : ℕ). key * 2 ^ 32 % 2 ^ (32 + 32) + x)
           (ew
           ∙ sym

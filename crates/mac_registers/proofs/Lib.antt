@@ -1,6 +1,5 @@
 pub mod Message
 pub mod Cutting
 pub mod Lookup
-pub mod Double
 pub mod Widths
 pub mod Packed

@@ -4,35 +4,30 @@ use mathlib.Core.List.{List, [], _∷_}
 use mathlib.Core.Logic.{⊎-elim}
 use Prim.Native.Nat.{ℕ, _+_, _*_, _/_, _%_, _^_, _<_, _≤_}
 use native.Mathlib.Omega.{arith}
-use native.Mathlib.Nat.{add-zero, lt-of-lt-of-le, mod-eq-of-lt, mul-mod-left, pow-le-pow-right, zero-add}
+use native.Mathlib.Nat.{lt-of-lt-of-le, mod-eq-of-lt, pow-le-pow-right, zero-add}
 use lib.Arith.{digits-lt}
 use lib.Bits.{xor-block, xor-lt}
-use lib.Pow.{high, low, mod-pow-add, shl-shr, shr-lt}
+use lib.Pow.{high, low, shr-lt}
 use Rattle.standard.specs.Notation.{_⊕_, _⟨_⟩}
-use Rattle.standard.specs.Bits.{M, bitOf, window, z}
+use Rattle.standard.specs.Bits.{M, bitAt, bitOf, window, z}
 use Rattle.standard.specs.Generator.{wordAt}
 use Rattle.standard.specs.States.{Held, moved}
 use Rattle.standard.specs.Integrity.{T}
 use Rattle.standard.proofs.Generator.{wordAt-lt}
 use Rattle.standard.proofs.Linear.{M-lt}
-use Rattle.standard.proofs.Sum.{sum-ext}
-use Rattle.standard.proofs.Window.{bit-window, window-cell, window-cells, window-lt, window-split}
+use Rattle.standard.proofs.Register.{shl-keeps, sum-piece}
+use Rattle.standard.proofs.Sum.{sum-ext, sum-join}
+use Rattle.standard.proofs.Window.{bit-window, bitAt-lt, window-cell, window-cells, window-lt, window-split}
 use borrow.Author.Tests.{ne-eqb}
+use Rattle.mac_wide.specs.InnerRows.{streamOf}
 use Rattle.mac_registers.specs.InnerLookup.{between, summed}
 use Rattle.mac_registers.specs.Stored.{_‖₁₂₈_, _‖₆₄_, keyOf, keyWords, tagOf, tagWords}
 use Rattle.mac_registers.specs.Inner.{Width, fresh}
 use Rattle.mac_registers.proofs.Message.{z-lt}
 
--- a key pair moved up by t bits is its low half on high
-pub moved-up : (t key : ℕ) → key * 2 ^ t % 2 ^ (t + t) ≡ key % 2 ^ t * 2 ^ t
-moved-up t key =
-    mod-pow-add (key * 2 ^ t) t t
-    ∙ ap₂ (λ (x y : ℕ). x % 2 ^ t * 2 ^ t + y) (shl-shr key t) (mul-mod-left key (2 ^ t))
-    ∙ add-zero (key % 2 ^ t * 2 ^ t)
-
 -- a key pair moved up by half, in its halves
 moved-low : (t hi lo : ℕ) → lo < 2 ^ t → (hi * 2 ^ t + lo) * 2 ^ t % 2 ^ (t + t) ≡ lo * 2 ^ t
-moved-low t hi lo h = moved-up t (hi * 2 ^ t + lo) ∙ ap (λ (x : ℕ). x * 2 ^ t) (low hi t h)
+moved-low t hi lo h = shl-keeps (hi * 2 ^ t + lo) t t ∙ ap (λ (x : ℕ). x * 2 ^ t) (low hi t h)
 
 -- words out of the numbers that they make
 pub words-8 : (a b : ℕ) → b < 2 ^ 64 → keyWords 8 (a ‖₆₄ b) ≡ a ∷ b ∷ 0 ∷ 0 ∷ []
@@ -57,7 +52,7 @@ module _ (w : ℕ) (k words : List ℕ) where
 
   pub moved-4 : w ≡ 4 → Moved ((k ⟨ 0 ⟩ % 2 ^ 32 * 2 ^ 32 + words ⟨ 0 ⟩) ∷ 0 ∷ 0 ∷ 0 ∷ [])
   unfolding keyWords keyOf tagOf
-  moved-4 e = rw e (ap (λ (x : ℕ). (x + words ⟨ 0 ⟩) ∷ 0 ∷ 0 ∷ 0 ∷ []) (sym (moved-up 32 (k ⟨ 0 ⟩))))
+  moved-4 e = rw e (ap (λ (x : ℕ). (x + words ⟨ 0 ⟩) ∷ 0 ∷ 0 ∷ 0 ∷ []) (sym (shl-keeps (k ⟨ 0 ⟩) 32 32)))
 
   pub moved-8 : w ≡ 8 → k ⟨ 1 ⟩ < 2 ^ 64 → words ⟨ 0 ⟩ < 2 ^ 64 → Moved (k ⟨ 1 ⟩ ∷ words ⟨ 0 ⟩ ∷ 0 ∷ 0 ∷ [])
   unfolding keyOf tagOf
@@ -80,6 +75,11 @@ block-bits t key block =
     sum-ext t (bitOf (t + t) key) (bitOf (t + t) key) 0 0 (bitOf t (window (M block) 0 t)) (M block) t (λ j h. refl)
     (λ j h. bit-window (M block) (M-lt block) 0 t j h ∙ ap (M block) (zero-add j))
 
+-- two words of a key's stream
+pair-window : (f : ℕ → ℕ) (q : ℕ) → f q < 2 ^ 64 → f (q + 1) < 2 ^ 64 → window (bitAt 64 f) (q * 64) 128 ≡ f q ‖₆₄ f (q + 1)
+pair-window f q h h′ =
+    window-cells 64 (omega arith) f q 1 h′ ∙ ap (λ (x : ℕ). x ‖₆₄ f (q + 1)) (window-cell 64 (omega arith) f q h)
+
 -- the tag with a block's sum
 module _ (w : ℕ) (k t block : List ℕ) where
   abbrev Summed : List ℕ → Type 0
@@ -89,20 +89,41 @@ module _ (w : ℕ) (k t block : List ℕ) where
   unfolding tagWords tagOf keyOf
   summed-4 e sum s = rw e (ap (λ (x : ℕ). (t ⟨ 0 ⟩ ⊕ x) ∷ 0 ∷ []) (s ∙ block-bits 32 (k ⟨ 0 ⟩) block))
 
-  pub summed-8 : w ≡ 8 → (sum : ℕ) → sum ≡ summed 64 (k ⟨ 0 ⟩ ‖₆₄ k ⟨ 1 ⟩) (window (M block) 0 64) → Summed ((t ⟨ 0 ⟩ ⊕ sum) ∷ 0 ∷ [])
-  unfolding tagWords tagOf keyOf
-  summed-8 e sum s = rw e (ap (λ (x : ℕ). (t ⟨ 0 ⟩ ⊕ x) ∷ 0 ∷ []) (s ∙ block-bits 64 (k ⟨ 0 ⟩ ‖₆₄ k ⟨ 1 ⟩) block))
+  module _ (small : (i : ℕ) → k ⟨ i ⟩ < 2 ^ 64) where
+    pub summed-8 : w ≡ 8 → (sum : ℕ) → sum ≡ T 64 (streamOf (k ⟨ 0 ⟩ ∷ k ⟨ 1 ⟩ ∷ [])) 0 (M block) 64 → Summed ((t ⟨ 0 ⟩ ⊕ sum) ∷ 0 ∷ [])
+    unfolding tagWords tagOf keyOf
+    summed-8 e sum s =
+        rw e
+        (ap (λ (x : ℕ). (t ⟨ 0 ⟩ ⊕ x) ∷ 0 ∷ [])
+        (s
+        ∙ sum-piece (bitAt 64 f) (bitAt-lt 64 f) (M block) 64 0 128 64 (omega arith)
+        ∙ ap (λ (x : ℕ). T 64 (bitOf 128 x) 0 (M block) 64) (pair-window f 0 (small 0) (small 1))))
+      where
+        f : ℕ → ℕ
+        f j = (k ⟨ 0 ⟩ ∷ k ⟨ 1 ⟩ ∷ []) ⟨ j ⟩
 
-  pub summed-16 : w ≡ 16 → (hi lo : ℕ) → t ⟨ 1 ⟩ < 2 ^ 64 → lo < 2 ^ 64
-      → hi ‖₆₄ lo ≡ summed 128 ((k ⟨ 0 ⟩ ‖₆₄ k ⟨ 1 ⟩) ‖₁₂₈ (k ⟨ 2 ⟩ ‖₆₄ k ⟨ 3 ⟩)) (window (M block) 0 128)
-      → Summed ((t ⟨ 0 ⟩ ⊕ hi) ∷ (t ⟨ 1 ⟩ ⊕ lo) ∷ [])
-  unfolding tagOf keyOf
-  summed-16 e hi lo h h′ s =
-      rw e
-      (sym
-      (ap (λ (x : ℕ). tagWords 16 ((t ⟨ 0 ⟩ ‖₆₄ t ⟨ 1 ⟩) ⊕ x)) (sym (s ∙ block-bits 128 ((k ⟨ 0 ⟩ ‖₆₄ k ⟨ 1 ⟩) ‖₁₂₈ (k ⟨ 2 ⟩ ‖₆₄ k ⟨ 3 ⟩)) block))
-      ∙ ap (tagWords 16) (xor-block 64 (t ⟨ 0 ⟩) hi (t ⟨ 1 ⟩) lo h h′)
-      ∙ tag-words-16 (t ⟨ 0 ⟩ ⊕ hi) (t ⟨ 1 ⟩ ⊕ lo) (xor-lt 64 (t ⟨ 1 ⟩) lo h h′)))
+    pub summed-16 : w ≡ 16 → (hi lo : ℕ) → t ⟨ 1 ⟩ < 2 ^ 64 → lo < 2 ^ 64
+        → (hi ≡ T 64 (streamOf (k ⟨ 0 ⟩ ∷ k ⟨ 1 ⟩ ∷ k ⟨ 2 ⟩ ∷ k ⟨ 3 ⟩ ∷ [])) 0 (M block) 128)
+        × (lo ≡ T 64 (streamOf (k ⟨ 0 ⟩ ∷ k ⟨ 1 ⟩ ∷ k ⟨ 2 ⟩ ∷ k ⟨ 3 ⟩ ∷ [])) 64 (M block) 128)
+        → Summed ((t ⟨ 0 ⟩ ⊕ hi) ∷ (t ⟨ 1 ⟩ ⊕ lo) ∷ [])
+    unfolding tagOf keyOf
+    summed-16 e hi lo h h′ s =
+        rw e
+        (sym
+        (ap (λ (x : ℕ). tagWords 16 ((t ⟨ 0 ⟩ ‖₆₄ t ⟨ 1 ⟩) ⊕ x)) (sym sum)
+        ∙ ap (tagWords 16) (xor-block 64 (t ⟨ 0 ⟩) hi (t ⟨ 1 ⟩) lo h h′)
+        ∙ tag-words-16 (t ⟨ 0 ⟩ ⊕ hi) (t ⟨ 1 ⟩ ⊕ lo) (xor-lt 64 (t ⟨ 1 ⟩) lo h h′)))
+      where
+        f : ℕ → ℕ
+        f j = (k ⟨ 0 ⟩ ∷ k ⟨ 1 ⟩ ∷ k ⟨ 2 ⟩ ∷ k ⟨ 3 ⟩ ∷ []) ⟨ j ⟩
+
+        sum : hi ‖₆₄ lo ≡ T 128 (bitOf 256 ((k ⟨ 0 ⟩ ‖₆₄ k ⟨ 1 ⟩) ‖₁₂₈ (k ⟨ 2 ⟩ ‖₆₄ k ⟨ 3 ⟩))) 0 (M block) 128
+        sum =
+            ap₂ _‖₆₄_ (s .0) (s .1)
+            ∙ sym (sum-join 64 64 (bitAt 64 f) (bitAt-lt 64 f) 0 (M block) 128)
+            ∙ sum-piece (bitAt 64 f) (bitAt-lt 64 f) (M block) 128 0 256 128 (omega arith)
+            ∙ ap (λ (x : ℕ). T 128 (bitOf 256 x) 0 (M block) 128)
+            (window-split (bitAt 64 f) 0 128 128 ∙ ap₂ _‖₁₂₈_ (pair-window f 0 (small 0) (small 1)) (pair-window f 2 (small 2) (small 3)))
 
 -- a number in two words moved up by 32 bits, and a word after it
 shifted : (a b c : ℕ) → (a ‖₆₄ b) < 2 ^ 96 → b < 2 ^ 64 → between a b ‖₆₄ (b % 2 ^ 32 * 2 ^ 32 + c) ≡ (a ‖₆₄ b) * 2 ^ 32 + c
@@ -204,11 +225,3 @@ bytes-64 m k =
   where
     place : k * 8 + 32 ≡ (k + 4) * 8
     place = omega arith
-
--- the halves of eight bytes
-pub halves-64 : (m : List ℕ) (k : ℕ)
-    → (window (M m) (k * 8) 32 ≡ window (M m) (k * 8) 64 / 2 ^ 32) × (window (M m) ((k + 4) * 8) 32 ≡ window (M m) (k * 8) 64 % 2 ^ 32)
-halves-64 m k = (omega (arith, bytes-64 m k, small), omega (arith, bytes-64 m k, small))
-  where
-    small : window (M m) ((k + 4) * 8) 32 < 2 ^ 32
-    small = window-lt (M m) (M-lt m) ((k + 4) * 8) 32

@@ -1,4 +1,4 @@
--- Tag sums by look-ups: sixteen multiples of a key pair, one look-up for each four message bits, and twice the width from four sums.
+-- Tag sums of 32 bits by look-ups: sixteen multiples of a key pair, and one look-up for each four message bits.
 use mathlib.Core.List.{List}
 use Prim.Native.Nat.{ℕ, zero, suc, _+_, _-_, _*_, _/_, _%_, _^_}
 use lib.ListN.{getD}
@@ -6,7 +6,7 @@ use Rattle.standard.specs.Notation.{_⊕_, listed}
 use Rattle.standard.specs.Bits.{bitOf}
 use Rattle.standard.specs.Integrity.{T, whereSet}
 
--- the tag sum of t message bits over a key pair of 2t bits: what the code computes at t = 32, 64 and 128
+-- the tag sum of t message bits over a key pair of 2t bits
 unfoldable pub summed : ℕ → ℕ → ℕ → ℕ
 summed t pair bits = T t (bitOf (t + t) pair) 0 (bitOf t bits) t
 
@@ -26,12 +26,6 @@ lookedUp table bits (suc k) = lookedUp table bits k ⊕ getD table (bits / 2 ^ (
 -- the two groups of a byte that has `at` message bits before it
 unfoldable pub byteLookedUp : List ℕ → ℕ → ℕ → ℕ
 byteLookedUp table b at = getD table (b / 16) 0 / 2 ^ (29 - at) % 2 ^ 32 ⊕ getD table (b % 16) 0 / 2 ^ (25 - at) % 2 ^ 32
-
--- 64 message bits, by the tables of the three neighbouring pairs in 128 bits of key
-unfoldable pub wideLookedUp : List ℕ → List ℕ → List ℕ → ℕ → ℕ
-wideLookedUp first middle last bits =
-    (lookedUp first (bits / 2 ^ 32) 8 ⊕ lookedUp middle (bits % 2 ^ 32) 8) * 2 ^ 32
-    + (lookedUp middle (bits / 2 ^ 32) 8 ⊕ lookedUp last (bits % 2 ^ 32) 8)
 
 -- the low half of x before the high half of y
 abbrev pub between : ℕ → ℕ → ℕ

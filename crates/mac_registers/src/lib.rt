@@ -10,11 +10,11 @@ ghost use Rattle.standard.specs.Notation.{_⊕_};
 ghost use Rattle.zuc.specs.Reading.{heldOf};
 ghost use Rattle.mac_registers.specs.Stored.{keyOf, keyWords, tagOf, tagWords};
 ghost use Rattle.mac_registers.specs.Inner.{Width, fresh, wordsOf};
+use mac_wide::sum_64;
+use mac_wide::sum_128;
 use sums::across;
 use sums::joined;
 use sums::sum_32;
-use sums::sum_64;
-use sums::sum_128;
 use words::word_of;
 use zuc::Zuc;
 
@@ -69,7 +69,7 @@ pub fn tag_with(width: usize, key: [u64; 4], tag: [u64; 2], block: &[u8]) -> [u6
         8 => [tag[0] ^ sum_64(key[0], key[1], block), 0],
         _ => {
             let sum = sum_128(key[0], key[1], key[2], key[3], block);
-            [tag[0] ^ sum.hi, tag[1] ^ sum.lo]
+            [tag[0] ^ sum.x0, tag[1] ^ sum.x1]
         }
     }
 }

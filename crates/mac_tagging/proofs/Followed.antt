@@ -23,7 +23,7 @@ use Rattle.standard.proofs.Sum.{sum-ext, sum-split}
 use Rattle.mac_registers.specs.Tagging.{Tagging, absorbed, fed, updated}
 use Rattle.mac_registers.proofs.Message.{M-drop, M-front, window-after, z-lt}
 use Rattle.mac_registers.proofs.Cutting.{absorbed-fills, absorbed-waits}
-use Rattle.mac_registers.proofs.Widths.{moved-up}
+use Rattle.standard.proofs.Register.{shl-keeps}
 
 -- o is where the windows start, first the tag at the start, blocks the number of whole blocks, taken the bytes in them, drawn the words
 pub record Followed (t o : ℕ) (σ : Held) (first : ℕ) (m : List ℕ) (st : Tagging) (blocks taken drawn : ℕ) : Type 0 where
@@ -41,7 +41,7 @@ key-on : (s : ℕ → ℕ) → ((i : ℕ) → s i < 2) → (t a : ℕ)
     → window s a (t + t) * 2 ^ t % 2 ^ (t + t) + window s (a + t + t) t ≡ window s (a + t) (t + t)
 key-on s b t a =
     ap (λ (x : ℕ). x + window s (a + t + t) t)
-    (moved-up t (window s a (t + t))
+    (shl-keeps (window s a (t + t)) t t
     ∙ ap (λ (x : ℕ). x % 2 ^ t * 2 ^ t) (window-split s a t t)
     ∙ ap (λ (x : ℕ). x * 2 ^ t) (low (window s a t) t (window-lt s b (a + t) t)))
     ∙ sym (window-split s (a + t) t t)

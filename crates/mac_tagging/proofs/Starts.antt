@@ -15,7 +15,7 @@ use Rattle.mac_registers.specs.Stored.{keyOf, keyWords, packed, tagOf, tagWords
 use Rattle.mac_registers.specs.Inner.{Width, Words, fresh, begun}
 use Rattle.mac_registers.specs.Tagging.{begun-EIA3, begun-ZUC256}
 use Rattle.mac_registers.proofs.Message.{window-after, z-lt}
-use Rattle.mac_registers.proofs.Widths.{moved-up}
+use Rattle.standard.proofs.Register.{shl-keeps}
 use Rattle.mac_registers.proofs.Packed.{key-back, width-whole}
 use Rattle.mac_blocks.proofs.Moves.{fresh-back, quarter}
 
@@ -62,7 +62,7 @@ module _ {w : ℕ} (v : Width w) (σ : Held) (f₁ f₂ : Words) (e₁ : f₁ �
             ∙ ap₂ (λ (x y : ℕ). keyWords w (x * 2 ^ (w * 8) % 2 ^ (w * 8 + w * 8) + y))
             (ap (keyOf w) (eh ∙ ap (keyWords w) first-half) ∙ key-back v A) second-half
             ∙ ap (λ (x : ℕ). keyWords w (x + window (z (wordAt (σ .meaning))) (0 + w * 8) (w * 8)))
-            (moved-up (w * 8) A ∙ ap (λ (x : ℕ). x * 2 ^ (w * 8)) (mod-eq-of-lt (window-lt (z (wordAt (σ .meaning))) (z-lt (wordAt (σ .meaning))) 0 (w * 8))))
+            (shl-keeps A (w * 8) (w * 8) ∙ ap (λ (x : ℕ). x * 2 ^ (w * 8)) (mod-eq-of-lt (window-lt (z (wordAt (σ .meaning))) (z-lt (wordAt (σ .meaning))) 0 (w * 8))))
             ∙ ap (keyWords w) (sym (window-split (z (wordAt (σ .meaning))) 0 (w * 8) (w * 8)))) i;
         tag = et i;
         rem = replicate 16 0;

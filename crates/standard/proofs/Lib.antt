@@ -10,6 +10,7 @@ pub mod Cells
 pub mod Generator
 pub mod Held
 pub mod Sum
+pub mod Register
 pub mod Extra
 pub mod Linear
 pub mod Listed

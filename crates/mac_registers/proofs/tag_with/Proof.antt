@@ -14,7 +14,10 @@ use Rattle.mac_registers.proofs.tag_with.Tie as tie
 tag-small : (s : tie.Start) (i : ℕ) → Fits w64 (s .args .t3 ⟨ i ⟩)
 tag-small s i = search needs
 
-sum-small : (d : tie.After-sum-128) → d .sum-128 .result .lo < 2 ^ 64
+key-small : (s : tie.Start) (i : ℕ) → Fits w64 (s .args .t2 ⟨ i ⟩)
+key-small s i = search needs
+
+sum-small : (d : tie.After-sum-128) → d .sum-128 .result .x1 < 2 ^ 64
 sum-small d = search needs
 
 sum-128-requires : tie.Need-sum-128-requires
@@ -32,8 +35,9 @@ returns c =
 returns-2 : tie.Need-returns-2
 returns-2 c =
     let m = c .before in
-    let a = m .before .before .args in
-    summed-8 (a .width) (a .t2) (a .t3) (now (a .block)) (m .match .keys2) (c .sum-64 .result) (c .sum-64 .ensures)
+    let s = m .before .before in
+    let a = s .args in
+    summed-8 (a .width) (a .t2) (a .t3) (now (a .block)) (λ i. key-small s i .fits) (m .match .keys2) (c .sum-64 .result) (c .sum-64 .ensures)
 
 returns-3 : tie.Need-returns-3
 returns-3 c =
@@ -41,8 +45,8 @@ returns-3 c =
     let m = d .before in
     let s = m .before .before in
     let a = s .args in
-    summed-16 (a .width) (a .t2) (a .t3) (now (a .block)) (is-16 (a .width) (s .pre .0) (m .match .rest .0 .1) (m .match .rest .1))
-    (d .sum-128 .result .hi) (d .sum-128 .result .lo) (tag-small s 1 .fits) (sum-small d) (d .sum-128 .ensures)
+    summed-16 (a .width) (a .t2) (a .t3) (now (a .block)) (λ i. key-small s i .fits) (is-16 (a .width) (s .pre .0) (m .match .rest .0 .1) (m .match .rest .1))
+    (d .sum-128 .result .x0) (d .sum-128 .result .x1) (tag-small s 1 .fits) (sum-small d) (d .sum-128 .ensures)
 
 pub tag-with-spec : {M : Type 1} → statement M
 tag-with-spec =
