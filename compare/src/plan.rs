@@ -43,13 +43,15 @@ pub type Try<'a> = &'a mut dyn FnMut(Input);
 pub type Inputs = fn(&mut Rng, Try);
 
 /// The sections of the quick run, each with the inputs that it tries.
-pub const SECTIONS: [(&str, Inputs); 23] = [
+pub const SECTIONS: [(&str, Inputs); 25] = [
     ("words: keys and IVs of structure", structured),
     ("words: 0 to 70 at a time", word_counts),
     ("EEA3, EIA3: every bearer with every direction", bearers_and_directions),
     ("masks: 0 to 40 bytes, every bit length", short_masks),
     ("tags: 0 to 40 bytes, every bit length", short_tags),
     ("tags: every way to cut 0 to 12 bytes", every_cut),
+    ("tags: two updates that end near a block's end", cut_near_blocks),
+    ("tags: one bit of four blocks", single_bits),
     ("masks, tags: near multiples of 4 .. 64 bytes", around_multiples),
     ("masks, tags: bit lengths past any buffer", huge_bits),
     ("lengths of keys and IVs, tag widths", wrong_lengths),
@@ -205,6 +207,40 @@ fn every_cut(rng: &mut Rng, attempt: Try) {
                 for bits in [8 * last, 8 * last - 1, 8 * last - 1 - rng.below(7)] {
                     attempt(Input { cuts: cuts.to_vec(), bits, ..input.clone() });
                 }
+            }
+        }
+    }
+}
+
+/// Two updates, each of up to four blocks less a byte, and a last part of up to a block and a bit. A
+/// block has as many bytes as the tag.
+fn cut_near_blocks(rng: &mut Rng, attempt: Try) {
+    for tagger in TAGGERS {
+        let (_, size) = tagger.kind();
+        let near: Vec<usize> =
+            (0..=3).flat_map(|n| [n * size, n * size + 1, (n + 1) * size - 1]).collect();
+        for &first in &near {
+            for &second in &near {
+                for bits in [0, 1, 7, 8, 8 * size - 1, 8 * size, 8 * size + 1] {
+                    let length = first + second + bits.div_ceil(8);
+                    let input = over(rng, Call::Tag(tagger), length, bits);
+                    attempt(Input { cuts: vec![first, second], ..input });
+                }
+            }
+        }
+    }
+}
+
+/// One bit set of four blocks, and one clear: a window at the wrong place shows by itself.
+fn single_bits(rng: &mut Rng, attempt: Try) {
+    for tagger in TAGGERS {
+        let length = 4 * tagger.kind().1;
+        for bit in 0..8 * length {
+            for background in [0, 0xff] {
+                let mut input = over(rng, Call::Tag(tagger), length, 8 * length);
+                input.data.fill(background);
+                input.data[bit / 8] ^= 0x80 >> (bit % 8);
+                attempt(input);
             }
         }
     }
