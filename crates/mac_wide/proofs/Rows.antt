@@ -17,7 +17,29 @@ use Rattle.standard.proofs.Register.{window-none, window-up, window-xor}
 use Rattle.standard.proofs.Sum.{sum-ext, sum-lt, sum-split}
 use Rattle.standard.proofs.Window.{window-ext}
 use Rattle.standard.proofs.Xor.{xor-four}
-use Rattle.mac_wide.specs.InnerRows.{cut, fourOn, looked, over, raised, row, turned, wordsFrom}
+use Rattle.mac_wide.specs.InnerRows.{fourOn, over, raised}
+
+-- n words of a stream, from a place on
+abbrev pub wordsFrom : (ℕ → ℕ) → ℕ → ℕ → List ℕ
+wordsFrom s p zero = []
+wordsFrom s p (suc n) = window s p 64 ∷ wordsFrom s (p + 64) n
+
+-- the bits of a register after k turns: in each it moves up by eight bits, and the turn's entry goes in
+unfoldable pub turned : (ℕ → ℕ → ℕ) → ℕ → ℕ → ℕ
+turned e zero i = 0
+turned e (suc k) i = e k i ⊕ turned e k (8 + i)
+
+-- the same for a register of D bits, in which an entry has no room for more
+abbrev pub cut : ℕ → (ℕ → ℕ) → ℕ → ℕ
+cut D f i = if ltb i D then f i else 0
+
+unfoldable pub row : ℕ → (ℕ → ℕ → ℕ) → ℕ → ℕ → ℕ
+row D e = turned (λ j. cut D (e j))
+
+-- the entry of turn j: the bits of the key at four message bits of each of W words, the high ones of byte 7 - j of the word
+unfoldable pub looked : (ℕ → ℕ) → (ℕ → ℕ) → ℕ → ℕ → ℕ → ℕ
+looked s m zero j i = 0
+looked s m (suc W) j i = looked s m W j i ⊕ T 1 s (64 * W + i) (λ b. m ((8 * W + 7 - j) * 8 + b)) 4
 
 turned-none : (e : ℕ → ℕ → ℕ) (k i : ℕ) → ((j i′ : ℕ) → i ≤ i′ → e j i′ ≡ 0) → turned e k i ≡ 0
 unfolding turned

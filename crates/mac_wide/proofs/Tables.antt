@@ -14,8 +14,8 @@ use Rattle.standard.proofs.Register.{sum-window, window-high, window-low, windo
 use Rattle.standard.proofs.Sum.{sum-ext, sum-lt}
 use Rattle.standard.proofs.Window.{bit-window, bitAt-lt, window-cell, window-ext}
 use Rattle.standard.proofs.Xor.{xor-assoc}
-use Rattle.mac_wide.specs.InnerRows.{fourOn, looked, multiple, multiplesOf, raised, streamOf}
-use Rattle.mac_wide.proofs.Rows.{looked-lt}
+use Rattle.mac_wide.specs.InnerRows.{fourOn, multiple, multiplesOf, raised, streamOf}
+use Rattle.mac_wide.proofs.Rows.{looked, looked-lt}
 
 -- the table, spelled as the code makes it
 abbrev entries : ℕ → ℕ → ℕ → ℕ → List ℕ

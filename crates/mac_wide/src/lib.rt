@@ -74,6 +74,7 @@ pub struct Two {
     pub x1: u64,
 }
 
+// The register moves up by a byte, and the entry of four message bits goes in, by a table for each of its words.
 fn turn_64(a: &[u64; 16], b: &[u64; 16], n: usize, x: Two) -> Two
     requires { ⌜ n < 16 ⌝ }
     ensures { λ r. ⌜ r .x0 ∷ r .x1 ∷ [] ≡ over 8 (now (a .entry) ⟨ n ⟩ ∷ now (b .entry) ⟨ n ⟩ ∷ []) (x .x0 ∷ x .x1 ∷ 0 ∷ []) ⌝ }
@@ -84,6 +85,7 @@ fn turn_64(a: &[u64; 16], b: &[u64; 16], n: usize, x: Two) -> Two
     }
 }
 
+// The last byte first. What is lost below never reaches the bits that are read: those of the low row lie four further down.
 pub fn sum_64(k0: u64, k1: u64, block: &[u8]) -> u64
     requires { ⌜ 8 ≤ length (now block) ⌝ }
     ensures { λ r. ⌜ r ≡ T 64 (streamOf (k0 ∷ k1 ∷ [])) 0 (M (now (block .entry))) 64 ⌝ }
@@ -106,6 +108,7 @@ pub struct Three {
     pub x2: u64,
 }
 
+// The second message word stands 64 bits further on in the key, so its entry has the next tables.
 fn turn_128(
     a: &[u64; 16],
     b: &[u64; 16],

@@ -11,8 +11,8 @@ use Rattle.standard.specs.Bits.{M, bitAt, window}
 use Rattle.standard.proofs.Linear.{M-lt}
 use Rattle.standard.proofs.Register.{sum-window}
 use Rattle.standard.proofs.Window.{bitAt-lt}
-use Rattle.mac_wide.specs.InnerRows.{fourOn, looked, multiplesOf, over, row, streamOf, turned, wordsFrom}
-use Rattle.mac_wide.proofs.Rows.{gathered-is, looked-lt, row-more}
+use Rattle.mac_wide.specs.InnerRows.{fourOn, multiplesOf, over, streamOf}
+use Rattle.mac_wide.proofs.Rows.{gathered-is, looked, looked-lt, row, row-more, turned, wordsFrom}
 use Rattle.mac_wide.proofs.Tables.{word-more, word-none}
 use Rattle.mac_wide.proofs.sum_64.Statement.{statement}
 use Rattle.mac_wide.proofs.sum_64.Tie as tie
