@@ -28,7 +28,7 @@ fedBy width key tag words part key′ tag′ =
 
 -- bytes of whole blocks, some where a block is left
 pub record Portion (width left r : ℕ) : Type 0 where
-  pub most : r ≤ 256
+  pub most : r ≤ 1024
   pub within : r ≤ left
   pub some : width ≤ left → width ≤ r
   pub count : ℕ

@@ -58,9 +58,9 @@ fn feed_all(width: usize, key: [u64; 4], tag: [u64; 2], words: &[u32], part: &[u
     fed
 }
 
-// Whole blocks, at most 256 bytes, where nothing waits.
+// Whole blocks, at most 1024 bytes, where nothing waits.
 fn feed(t0: &[u8; 256], t1: &[u8; 256], s: TagState, part: &[u8]) -> TagState
-    requires { ⌜ now t0 ≡ S₀-table ⌝ ∗ ⌜ now t1 ≡ S₁-table ⌝ ∗ ⌜ Holds (storedOf s) ⌝ ∗ ⌜ (s .cnt ≡ 0) × (length (now part) ≤ 256) × ((n : ℕ) × (length (now part) ≡ n * s .width)) ⌝ }
+    requires { ⌜ now t0 ≡ S₀-table ⌝ ∗ ⌜ now t1 ≡ S₁-table ⌝ ∗ ⌜ Holds (storedOf s) ⌝ ∗ ⌜ (s .cnt ≡ 0) × (length (now part) ≤ 1024) × ((n : ℕ) × (length (now part) ≡ n * s .width)) ⌝ }
     ensures { λ r. ⌜ (storedOf r ≡ packed (s .width) (updated (s .width * 8) (taggingOf (storedOf s)) (now (part .entry)))) × (r .cnt ≡ 0) ⌝ }
 {
     let width = s.width;
@@ -68,7 +68,7 @@ fn feed(t0: &[u8; 256], t1: &[u8; 256], s: TagState, part: &[u8]) -> TagState
     let tag = s.tag;
     let g = s.g;
     let n = part.len() / 4;
-    let mut words = [0u32; 64];
+    let mut words = [0u32; 256];
     let next = zuc_bulk::words_into(t0, t1, g, &mut words[..n]);
     let fed = feed_all(width, key, tag, &words[..n], part);
     let moved = fed.key;
@@ -83,13 +83,13 @@ fn feed(t0: &[u8; 256], t1: &[u8; 256], s: TagState, part: &[u8]) -> TagState
     }
 }
 
-// The bytes of the next blocks, at most 256.
+// The bytes of the next blocks, at most 1024.
 fn portion(width: usize, left: usize) -> usize
     requires { ⌜ Width width ⌝ }
     ensures { λ r. ⌜ Portion width left r ⌝ }
 {
-    if 256 <= left {
-        return 256;
+    if 1024 <= left {
+        return 1024;
     }
     left - left % width
 }

@@ -37,7 +37,7 @@ drew : (d : tie.After-words-into) (l : List ℕ) →
     ≡ length (now (d .before .before .before .before .before .before .args .part)) / 4)
 drew d l =
     let s = d .before .before .before .before .before .before in
-    filled (wordAt (heldOf (s .args .s .g) .meaning)) (length (now (s .args .part)) / 4) (d .words-into .last .1 .1 .1 .0) (replicate 64 0) l (d .words-into .ensures .1)
+    filled (wordAt (heldOf (s .args .s .g) .meaning)) (length (now (s .args .part)) / 4) (d .words-into .last .1 .1 .1 .0) (replicate 256 0) l (d .words-into .ensures .1)
     (omega (arith, s .pre .1 .1 .1 .1))
 
 array-share-prefix-words : tie.Need-array-share-prefix-words
@@ -64,7 +64,7 @@ returns c =
     let f = c .before .before .feed-all .result in
     let n : ℕ = length (now (a .part)) / 4 in (
       ap (λ (τ : Held). emptyOf w τ (f .key) (f .tag))
-          (d .words-into .ensures .0 ∙ ap (λ (k : ℕ). moved k (heldOf (a .s .g))) (length-take-le n (replicate 64 0) (omega (arith, s .pre .1 .1 .1 .1))))
+          (d .words-into .ensures .0 ∙ ap (λ (k : ℕ). moved k (heldOf (a .s .g))) (length-take-le n (replicate 256 0) (omega (arith, s .pre .1 .1 .1 .1))))
           ∙ c .before .before .feed-all .ensures (heldOf (a .s .g)) (emptied-held (storedOf (a .s)) (s .pre .1 .1 .0)) (words .0 ∙ ap (listed (wordAt (heldOf (a .s .g) .meaning)) 0) (sym (words .2)))
           ∙ ap (λ (st : Tagging). packed w (updated (w * 8) st (now (a .part)))) (emptied-is (storedOf (a .s)) (s .pre .1 .1 .1 .0)),
       refl,
