@@ -2,7 +2,7 @@
 -- words drawn. By the tests of both: ⌈L/32⌉ words are never more than floor(n/4) + 1 where L fits n bytes.
 use mathlib.Core.List.{List}
 use mathlib.Core.Path.{_≡_, sym, ap, _∙_}
-use Prim.Native.Nat.{ℕ, _+_, _*_, _/_, _≤_}
+use Prim.Native.Nat.{ℕ}
 use native.Mathlib.Omega.{arith}
 use lib.ListN.{length}
 use Rattle.standard.specs.Confidentiality.{maskClean, wordsToMaskCrate}

@@ -4,15 +4,15 @@ use mathlib.Core.Bool.{true}
 use mathlib.Core.List.{List, [], _∷_, _++_, append-assoc}
 use mathlib.Core.Logic.{_↔_}
 use mathlib.Core.Path.{_≡_, refl, sym, ap, ap₂, _∙_, subst}
-use Prim.Native.Nat.{ℕ, _+_, _*_, _/_, _%_, _≤_}
+use Prim.Native.Nat.{ℕ, _+_, _*_, _/_, _%_}
 use native.Mathlib.Nat.{zero-add}
 use native.Mathlib.Omega.{arith}
 use lib.ListN.{length, length-append}
-use Rattle.standard.specs.Confidentiality.{maskClean, wordsToMaskClean}
+use Rattle.standard.specs.Confidentiality.{maskClean}
 use Rattle.standard.specs.Generator.{wordAt}
 use Rattle.standard.specs.Notation.{ceil, joined}
 use Rattle.standard.specs.Refusals.{accepted}
-use Rattle.standard.specs.States.{Counted, Held, drawnOn, generatorFormed, limit}
+use Rattle.standard.specs.States.{Counted, Held, drawnOn, generatorFormed}
 use Rattle.standard.proofs.Held.{drawn-more, generatorFormed-ready, ready-generatorFormed, ready-moved, wordAt-moved}
 use Rattle.standard.proofs.Masking.{clean-append}
 use Rattle.mask.specs.Outcome.{Outcome, cleanOutcome, drawn}

@@ -11,7 +11,7 @@ use lib.Pow.{shr-shr, field, mod-mod-pow}
 use Rattle.standard.specs.Notation.{_⊕_, eachFrom}
 use Rattle.standard.specs.Bits.{bitOf, bitAt, M, z, byteOf}
 use Rattle.standard.specs.Confidentiality.{OBS, masked, keepHigh, keptByCrate, keptByClean, clearedPast, maskedBuffer, maskCrate, maskClean}
-use Rattle.standard.proofs.Each.{length-each, getD-each, each-append, each-ext, each-each, each-set}
+use Rattle.standard.proofs.Each.{length-each, getD-each, each-append, each-ext, each-set}
 use Rattle.standard.proofs.Twice.{mask-twice}
 use Rattle.standard.proofs.Kept.{keep-all, kept-bit, lost-bit, crateEnd, end-le, crate-kept, kept-same, kept-stray}
 
