@@ -5,11 +5,11 @@ ghost use Prim.Native.Nat.{_≤_, _*_, _+_, _/_, _%_};
 ghost use lib.ListN.{length};
 ghost use Rattle.mask.specs.Inner.{Enough, cleared, outcomeTo, zeroed};
 ghost use Rattle.mask.specs.Outcome.{told, crateOutcome, cleanOutcome};
-ghost use Rattle.standard.specs.Confidentiality.{keepHigh};
 ghost use Rattle.standard.specs.Notation.{eachFrom};
 ghost use Rattle.standard.specs.States.{generatorFormed};
 ghost use Rattle.zuc.specs.Reading.{countedOf};
 use mask_bulk::mask_all;
+use words::keep_high;
 use zuc::Generator;
 use zuc::boxes::s0;
 use zuc::boxes::s1;
@@ -40,15 +40,6 @@ fn zero_from(buf: &mut [u8], from: usize)
         buf[i] = 0;
         i += 1;
     }
-}
-
-// The k high bits of a byte.
-fn keep_high(byte: u8, k: usize) -> u8
-    requires { ⌜ k ≤ 8 ⌝ }
-    ensures { λ r. ⌜ r ≡ keepHigh k byte ⌝ }
-{
-    let low = 8 - k;
-    (((byte as u32) >> low) << low) as u8
 }
 
 // Keeps the bytes before byte q and its k high bits, and zeroes what follows.

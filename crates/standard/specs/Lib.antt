@@ -8,4 +8,5 @@ pub mod Integrity
 pub mod Refusals
 pub mod States
 pub mod Guard
+pub mod Frame
 pub mod Examples

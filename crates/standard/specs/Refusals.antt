@@ -34,6 +34,23 @@ badState = 4
 abbrev pub badBits : ℕ
 badBits = 5
 
+-- Request 2026-01 (a sealed block), checked after 2 in this order: 6, 7, 8, 9, then the limit's 16, then 10.
+-- fewer than 17 bytes are lent, or, where a frame is read, its version is not 1
+abbrev pub badFrame : ℕ
+badFrame = 6
+
+-- the length field is not the bytes lent less 3; where a frame is written, more than 65538 bytes are lent
+abbrev pub badLength : ℕ
+badLength = 7
+
+-- ceil(L/8) is not the bytes lent less 17, or a bit past L is set in the body's last byte
+abbrev pub badBody : ℕ
+badBody = 9
+
+-- the tag is wrong
+abbrev pub badTag : ℕ
+badTag = 10
+
 -- Request 2026-04: a strict form was given a bearer above 31 or a direction above 1; checked directly after 2, and before 5
 abbrev pub badField : ℕ
 badField = 8

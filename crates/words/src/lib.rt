@@ -1,9 +1,10 @@
-// Helpers on numbers that the language lacks: rotation, bytes of a word, a bit length held against a byte count, a bearer and a direction
+// Helpers on numbers that the language lacks: rotation, bytes of a word, the high bits of a byte, a bit length held against a byte count, a bearer and a direction
 // against their fields, words against what is left.
 ghost use lib.Dec.{leb};
 ghost use mathlib.Core.Path.{_≡_};
 ghost use Prim.Native.Nat.{_+_, _*_, _<_, _≤_};
 ghost use Rattle.standard.specs.Bits.{byteOf};
+ghost use Rattle.standard.specs.Confidentiality.{keepHigh};
 ghost use Rattle.standard.specs.Notation.{_‖₈_, _⋘_};
 ghost use Rattle.standard.specs.Refusals.{fieldTest};
 ghost use Rattle.standard.specs.States.{limit};
@@ -29,6 +30,15 @@ pub fn byte_of(w: u32, j: usize) -> u8
     ensures { λ r. ⌜ r ≡ byteOf w j ⌝ }
 {
     ((w >> (8 * (3 - j))) % 256) as u8
+}
+
+// The k high bits of a byte.
+pub fn keep_high(byte: u8, k: usize) -> u8
+    requires { ⌜ k ≤ 8 ⌝ }
+    ensures { λ r. ⌜ r ≡ keepHigh k byte ⌝ }
+{
+    let low = 8 - k;
+    (((byte as u32) >> low) << low) as u8
 }
 
 // Whether a bit length is at most 8 times a number of bytes. Nothing is multiplied, so nothing overflows.

@@ -2,8 +2,8 @@
 use native.Mathlib.Omega.{arith}
 use borrow.Author.Needs.{needs}
 use Rattle.standard.proofs.Kept.{keep-shifted, keep-le}
-use Rattle.mask.proofs.keep_high.Statement.{statement}
-use Rattle.mask.proofs.keep_high.Tie as tie
+use Rattle.words.proofs.keep_high.Statement.{statement}
+use Rattle.words.proofs.keep_high.Tie as tie
 
 cast-result : tie.Need-cast-result-3
 cast-result c =

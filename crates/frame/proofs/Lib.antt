@@ -1,0 +1,6 @@
+pub mod Body
+pub mod Sealed
+pub mod Order
+pub mod Passed
+pub mod Laid
+pub mod Tight
