@@ -35,8 +35,12 @@ use Rattle.capi.proofs.eea3.eea3_mask_crate.Reads as eea3-mask-crate
 use Rattle.capi.proofs.eea3.eea3_mask_clean.Reads as eea3-mask-clean
 use Rattle.capi.proofs.eea3.eea3_mask_crate_strict.Reads as eea3-mask-crate-strict
 use Rattle.capi.proofs.eea3.eea3_mask_clean_strict.Reads as eea3-mask-clean-strict
+use Rattle.capi.proofs.frames.zuc_frame_read.Reads as zuc-frame-read
+use Rattle.capi.proofs.frames.zuc_frame_write.Reads as zuc-frame-write
 use Rattle.capi.proofs.links.zuc_guard_accept as zuc-guard-accept
 use Rattle.capi.proofs.links.zuc_guard_rekey as zuc-guard-rekey
+use Rattle.frame.specs.Outcome.{Written}
+use Rattle.capi.specs.Frames.{ReadArray}
 use Rattle.capi.specs.Generators.{DrawArray, MaskArray, StartArray, WordsArray}
 use Rattle.capi.specs.Tags.{ClosingArray, TagArray}
 use Rattle.guard.proofs.Tight.{told-tight}
@@ -223,3 +227,16 @@ tight-zuc-guard-rekey κs a r r′ s s′ p q = links-tight r r′ (now (s .0)) 
 pub asks-nothing-zuc-guard-rekey : (κs : Lfts 1) (a : ArgsD zuc-guard-rekey.signature κs) (w : World)
     → zuc-guard-rekey.clauses (w .𝓤) (w .H) (w .𝓖 .A) (w .𝓜 .mem) (w .𝓡 .run) κs a .requires tt ≡ emp (w .𝓤)
 asks-nothing-zuc-guard-rekey κs a w = refl
+
+-- frames: the number, the fields and every byte of the frame
+pub tight-zuc-frame-write : Tight {Seen = Written} zuc-frame-write.Post (λ κs r s. record { number = r; frame = now (s .1 .1 .1 .1 .1 .1 .0) })
+tight-zuc-frame-write κs a r r′ s s′ p q = p ∙ sym q
+
+pub asks-nothing-zuc-frame-write : AsksNothing zuc-frame-write.Pre
+asks-nothing-zuc-frame-write κs a = tt
+
+pub tight-zuc-frame-read : Tight {Seen = ReadArray} zuc-frame-read.Post (λ κs r s. record { number = r; fields = now (s .1 .1 .1 .0); frame = now (s .1 .1 .0) })
+tight-zuc-frame-read κs a r r′ s s′ p q = p ∙ sym q
+
+pub asks-nothing-zuc-frame-read : AsksNothing zuc-frame-read.Pre
+asks-nothing-zuc-frame-read κs a = tt

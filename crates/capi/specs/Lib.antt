@@ -1,3 +1,4 @@
 pub mod Generators
 pub mod Tags
 pub mod Runs
+pub mod Frames

@@ -1,11 +1,13 @@
 // The standard's number of each answer, and the word, count or tag that it holds: zeros, where it is a refusal.
 ghost use mathlib.Core.Path.{_≡_};
+ghost use Rattle.frame.specs.Outcome.{numberOf as frameNumber};
 ghost use Rattle.guard.specs.Outcome.{acceptNumber, rekeyNumber};
 ghost use Rattle.keystream.specs.Draws.{drawNumber, drawWord, fillNumber};
 ghost use Rattle.keystream.specs.Starts.{startNumber};
 ghost use Rattle.mac.specs.Calls.{onceTold-128, onceTold-256, tagList, tagNumber-128, tagNumber-256, tagWord, updateNumber};
 ghost use Rattle.mask.specs.Once.{onceCount, onceNumber};
 ghost use Rattle.mask.specs.Outcome.{countOf, numberOf};
+use frame::FrameAnswer;
 use guard::AcceptAnswer;
 use guard::RekeyAnswer;
 use keystream::DrawAnswer;
@@ -32,7 +34,15 @@ pub const BAD_STATE: u32 = 4;
 
 pub const BAD_BITS: u32 = 5;
 
+pub const BAD_FRAME: u32 = 6;
+
+pub const BAD_LENGTH: u32 = 7;
+
 pub const BAD_FIELD: u32 = 8;
+
+pub const BAD_BODY: u32 = 9;
+
+pub const BAD_TAG: u32 = 10;
 
 pub const SPENT: u32 = 16;
 
@@ -256,5 +266,20 @@ pub fn rekey_number(answer: RekeyAnswer) -> u32
     match answer {
         RekeyAnswer::Rekeyed => ACCEPTED,
         RekeyAnswer::BadLink => BAD_LINK,
+    }
+}
+
+pub fn frame_number(answer: FrameAnswer) -> u32
+    ensures { λ r. ⌜ r ≡ frameNumber answer ⌝ }
+{
+    match answer {
+        FrameAnswer::Done => ACCEPTED,
+        FrameAnswer::BadKey => BAD_KEY,
+        FrameAnswer::BadFrame => BAD_FRAME,
+        FrameAnswer::BadLength => BAD_LENGTH,
+        FrameAnswer::BadField => BAD_FIELD,
+        FrameAnswer::BadBody => BAD_BODY,
+        FrameAnswer::Spent => SPENT,
+        FrameAnswer::BadTag => BAD_TAG,
     }
 }
