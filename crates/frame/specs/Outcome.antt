@@ -30,9 +30,31 @@ fieldsOf f = record { COUNT = f .count; bearer = f .bearer; direction = f .direc
 abbrev pub noFields : Fields
 noFields = record { COUNT = 0; bearer = 0; direction = 0; L = 0 }
 
--- a body of a frame, for a test
-abbrev pub bodyTest : ℕ → List ℕ → Test
-bodyTest L body = record { passes = bodyFits L body; number = badBody }
+-- TESTS of the bytes lent, for a writer; of the bytes lent and the version, and of the length field, for a reader
+abbrev pub leastTest : List ℕ → Test
+leastTest frame = record { passes = leb besideBytes (length frame); number = badFrame }
+
+abbrev pub mostTest : List ℕ → Test
+mostTest frame = record { passes = leb (length frame) mostBytes; number = badLength }
+
+abbrev pub versionTest : List ℕ → Test
+versionTest frame = record { passes = leb besideBytes (length frame) && eqb (frame ⟨ 0 ⟩) version; number = badFrame }
+
+abbrev pub lengthTest : List ℕ → Test
+lengthTest frame = record { passes = eqb (twoAt frame 1) (length frame - 3); number = badLength }
+
+-- of fields; of a body; of the words that EIA3 draws, which are more than EEA3's; of the tag, over the masked body
+abbrev pub rangeTest : Fields → Test
+rangeTest f = fieldTest (f .bearer) (f .direction)
+
+abbrev pub bodyTest : Fields → List ℕ → Test
+bodyTest f frame = record { passes = bodyFits (f .L) (bodyIn frame); number = badBody }
+
+abbrev pub drawTest : Fields → Test
+drawTest f = limitTest 0 (drawnByTag-EIA3 (f .L))
+
+abbrev pub tagTest : List ℕ → List ℕ → Test
+tagTest IK frame = record { passes = eqb (tagIn frame) (tagOver IK (fieldsIn frame) (bodyIn frame)); number = badTag }
 
 -- WRITING: the number, and the frame
 pub record Written : Type 0 where
@@ -44,10 +66,7 @@ writtenTold r frame = record { number = numberOf r; frame = frame }
 
 abbrev pub writeTests : (CK IK : List ℕ) → Fields → List ℕ → List Test
 writeTests CK IK f frame =
-    keyTest 16 CK ∷ keyTest 16 IK
-    ∷ record { passes = leb besideBytes (length frame); number = badFrame }
-    ∷ record { passes = leb (length frame) mostBytes; number = badLength }
-    ∷ fieldTest (f .bearer) (f .direction) ∷ bodyTest (f .L) (bodyIn frame) ∷ limitTest 0 (drawnByTag-EIA3 (f .L)) ∷ []
+    keyTest 16 CK ∷ keyTest 16 IK ∷ leastTest frame ∷ mostTest frame ∷ rangeTest f ∷ bodyTest f frame ∷ drawTest f ∷ []
 
 -- a refusal leaves the frame as it came
 unfoldable pub writeOutcome : (CK IK : List ℕ) → Fields → List ℕ → Written
@@ -66,12 +85,8 @@ readTold r frame = record { number = numberOf (r .answer); fields = fieldsOf (r 
 
 abbrev pub readTests : (CK IK : List ℕ) → List ℕ → List Test
 readTests CK IK frame =
-    keyTest 16 CK ∷ keyTest 16 IK
-    ∷ record { passes = leb besideBytes (length frame) && eqb (frame ⟨ 0 ⟩) version; number = badFrame }
-    ∷ record { passes = eqb (twoAt frame 1) (length frame - 3); number = badLength }
-    ∷ fieldTest (fieldsIn frame .bearer) (fieldsIn frame .direction) ∷ bodyTest (fieldsIn frame .L) (bodyIn frame)
-    ∷ limitTest 0 (drawnByTag-EIA3 (fieldsIn frame .L))
-    ∷ record { passes = eqb (tagIn frame) (tagOver IK (fieldsIn frame) (bodyIn frame)); number = badTag } ∷ []
+    keyTest 16 CK ∷ keyTest 16 IK ∷ versionTest frame ∷ lengthTest frame ∷ rangeTest (fieldsIn frame) ∷ bodyTest (fieldsIn frame) frame ∷ drawTest (fieldsIn frame)
+    ∷ tagTest IK frame ∷ []
 
 -- a refusal leaves the frame as it came, with its body masked, and answers no fields. (Masked twice in clean mode a body is plain again)
 unfoldable pub readOutcome : (CK IK : List ℕ) → List ℕ → Readout
