@@ -12,7 +12,7 @@ use Rattle.standard.specs.Frame.{Fields, bodyFits, bodyIn, fieldsIn}
 use Rattle.standard.specs.Refusals.{accepted, fieldTest, tested}
 use Rattle.standard.proofs.Table.{and-left}
 use Rattle.standard.proofs.Tested.{Numbered}
-use Rattle.frame.specs.Inner.{Sealable, Writable}
+use Rattle.frame.specs.Inner.{Sealable, Taken}
 use Rattle.frame.specs.Outcome.{readTests, writeTests}
 use Rattle.frame.proofs.Body.{fits-bytes}
 use Rattle.frame.proofs.Order.{all-passed}
@@ -28,7 +28,7 @@ module _ (CK IK : List ℕ) (f : Fields) (frame : List ℕ) where
   pub write-numbered : Numbered (writeTests CK IK f frame)
   write-numbered = (lit< tt, (lit< tt, (lit< tt, (lit< tt, (lit< tt, (lit< tt, (lit< tt, tt)))))))
 
-  pub past-write : (n : ℕ) → n ≡ tested (writeTests CK IK f frame) (λ k. k) accepted → n ≡ accepted → f .L < 2 ^ 32 → Writable CK IK f frame
+  pub past-write : (n : ℕ) → n ≡ tested (writeTests CK IK f frame) (λ k. k) accepted → n ≡ accepted → f .L < 2 ^ 32 → Taken CK IK f frame
   past-write n e ok low =
       let all = all-passed (writeTests CK IK f frame) write-numbered n e ok in
       let long = leb-true 17 (length frame) (all .1 .1 .0) in

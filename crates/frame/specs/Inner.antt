@@ -15,7 +15,7 @@ pub record Sealable (key : List ℕ) (f : Fields) (body : List ℕ) : Type 0 whe
   pub low : f .L < 2 ^ 32
 
 -- past a writer's tests
-pub record Writable (CK IK : List ℕ) (f : Fields) (frame : List ℕ) : Type 0 where
+pub record Taken (CK IK : List ℕ) (f : Fields) (frame : List ℕ) : Type 0 where
   pub ck : length CK ≡ 16
   pub ik : length IK ≡ 16
   pub fields : fieldTest (f .bearer) (f .direction) .passes ≡ true

@@ -4,7 +4,7 @@ ghost use mathlib.Core.List.{[], _∷_, _++_};
 ghost use Prim.Native.Nat.{_≤_, _+_, _-_};
 ghost use lib.Dec.{eqb};
 ghost use lib.ListN.{length, take, drop};
-ghost use Rattle.frame.specs.Inner.{Sealable, Writable};
+ghost use Rattle.frame.specs.Inner.{Sealable, Taken};
 ghost use Rattle.frame.specs.Outcome.{fieldsOf, numberOf, readOutcome, readTests, readTold, writeOutcome, writeTests, writtenTold};
 ghost use Rattle.mac.specs.Calls.{onceTold-128};
 ghost use Rattle.standard.specs.Bits.{bytesOf};
@@ -213,7 +213,7 @@ fn tag_bytes(tag: u32) -> [u8; 4]
 
 // Masks the body where it lies, and fills in every byte beside it.
 fn seal(ck: &[u8], ik: &[u8], f: FrameFields, frame: &mut [u8])
-    requires { ⌜ Writable (now ck) (now ik) (fieldsOf f) (now frame) ⌝ }
+    requires { ⌜ Taken (now ck) (now ik) (fieldsOf f) (now frame) ⌝ }
     ensures { λ _. ⌜ now (frame .exit) ≡ frameOf (now (ck .entry)) (now (ik .entry)) (fieldsOf f) (bodyIn (now (frame .entry))) ⌝ }
 {
     let n = frame.len();
