@@ -1,0 +1,5 @@
+pub mod Joined
+pub mod Fits
+pub mod Parts
+pub mod Told
+pub mod Writing
