@@ -24,7 +24,7 @@ module _ (a b c d : ℕ) (ha : a < 2 ^ 8) (hb : b < 2 ^ 8) (hc : c < 2 ^ 8) (hd 
   pub bytes-of-four : a ∷ b ∷ c ∷ d ∷ [] ≡ bytesOf (a ‖₈ b ‖₈ c ‖₈ d)
   bytes-of-four = λ i. each-of-four .0 i ∷ each-of-four .1 i ∷ each-of-four .2 i ∷ each-of-four .3 i ∷ []
 
-  four-lt : a ‖₈ b ‖₈ c ‖₈ d < 2 ^ 32
+  pub four-lt : a ‖₈ b ‖₈ c ‖₈ d < 2 ^ 32
   four-lt = omega arith
 
 lowest : (x : ℕ) → byteOf x 3 ≡ x % 2 ^ 8

@@ -3,3 +3,4 @@ pub mod Fits
 pub mod Parts
 pub mod Told
 pub mod Writing
+pub mod Reading

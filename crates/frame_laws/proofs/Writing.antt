@@ -1,25 +1,25 @@
 -- When a frame is written (request 2026-01): exactly if keys, lengths, fields and body are as said, so that every content has a frame; a refused write
 -- leaves the frame as it came. By the tests' values.
 use mathlib.Core.Bool.{true}
-use mathlib.Core.List.{List, _++_}
+use mathlib.Core.List.{List, [], _∷_, _++_}
 use mathlib.Core.Logic.{_↔_}
 use mathlib.Core.Path.{_≡_, refl, sym, ap, subst, _∙_}
 use Prim.Native.Nat.{ℕ, _+_, _-_, _/_, _≤_}
 use native.Mathlib.Omega.{arith}
 use borrow.Author.Tests.{eq-eqb, eqb-true, le-leb, leb-false, leb-true}
-use lib.Dec.{lit<}
+use lib.Dec.{leb, lit<}
 use lib.ListN.{length}
 use Rattle.standard.specs.Frame.{Fields, bodyIn, frameOf}
 use Rattle.standard.specs.Integrity.{drawnByTag-EIA3}
-use Rattle.standard.specs.Refusals.{accepted, spent}
+use Rattle.standard.specs.Refusals.{Test, accepted, badFrame, badLength, fieldTest, keyTest, limitTest, spent}
 use Rattle.standard.specs.States.{limit}
 use Rattle.standard.proofs.Fields.{field-passed, field-passes}
 use Rattle.standard.proofs.Tested.{AllPass}
-use Rattle.frame.specs.Outcome.{Written, writeOutcome, writeTests}
+use Rattle.frame.specs.Outcome.{Written, bodyTest, writeOutcome, writeTests}
 use Rattle.frame_laws.specs.Taken.{Contents, NoBitPast, Writable}
 use Rattle.frame_laws.proofs.Fits.{fits-exactly}
 use Rattle.frame_laws.proofs.Parts.{body-length, body-there, whole-length}
-use Rattle.frame_laws.proofs.Told.{Call, NeverBy, told-answer, told-exactly, told-never, told-refused}
+use Rattle.frame_laws.proofs.Told.{Call, Place, pass-both, pass-first, told-answer, told-by, told-exactly, told-refused}
 
 module _ (CK IK : List ℕ) (f : Fields) (frame : List ℕ) where
   abbrev writing : Call Written
@@ -34,8 +34,15 @@ module _ (CK IK : List ℕ) (f : Fields) (frame : List ℕ) where
         numbered = (lit< tt, (lit< tt, (lit< tt, (lit< tt, (lit< tt, (lit< tt, (lit< tt, tt)))))));
       }
 
-  -- the tests say just this; a body of at most 65521 bytes draws too few words to meet the limit
-  passed-writable : AllPass (writeTests CK IK f frame) → Writable CK IK f frame
+  -- the tests before that of the limit say just what a writer takes
+  abbrev formTests : List Test
+  formTests =
+      keyTest 16 CK ∷ keyTest 16 IK
+      ∷ record { passes = leb 17 (length frame); number = badFrame }
+      ∷ record { passes = leb (length frame) 65538; number = badLength }
+      ∷ fieldTest (f .bearer) (f .direction) ∷ bodyTest (f .L) (bodyIn frame) ∷ []
+
+  passed-writable : AllPass formTests → Writable CK IK f frame
   passed-writable all =
       let least = leb-true 17 (length frame) (all .1 .1 .0) in
       let field = field-passed (f .bearer) (f .direction) (all .1 .1 .1 .1 .0) in
@@ -51,10 +58,7 @@ module _ (CK IK : List ℕ) (f : Fields) (frame : List ℕ) where
         no-bit-past = fits .1;
       }
 
-  few-words : length frame ≤ 65538 → (f .L + 7) / 8 ≡ length frame - 17 → 0 + drawnByTag-EIA3 (f .L) ≤ limit
-  few-words most bytes = omega arith
-
-  writable-passes : Writable CK IK f frame → AllPass (writeTests CK IK f frame)
+  writable-passes : Writable CK IK f frame → AllPass formTests
   writable-passes w = (
     eq-eqb (length CK) 16 (w .CK-bytes),
     (
@@ -65,50 +69,40 @@ module _ (CK IK : List ℕ) (f : Fields) (frame : List ℕ) where
           le-leb (length frame) 65538 (w .most),
           (
             field-passes (f .bearer) (f .direction) (w .bearer, w .direction),
-            (
-              fits-exactly (f .L) (bodyIn frame) .1 (w .body-bytes ∙ sym (body-length frame (w .least)), w .no-bit-past),
-              (le-leb (0 + drawnByTag-EIA3 (f .L)) limit (few-words (w .most) (w .body-bytes)), tt),
-            ),
+            (fits-exactly (f .L) (bodyIn frame) .1 (w .body-bytes ∙ sym (body-length frame (w .least)), w .no-bit-past), tt),
           ),
         ),
       ),
     ),
   )
 
-  -- each test has another number than 16 but the last one, and that one passes
-  never-by-16 : NeverBy spent (writeTests CK IK f frame)
-  never-by-16 = (
-    λ p e. omega arith,
-    λ ck. (
-      λ p e. omega arith,
-      λ ik. (
-        λ p e. omega arith,
-        λ least. (
-          λ p e. omega arith,
-          λ most. (
-            λ p e. omega arith,
-            λ field. (
-              λ p e. omega arith,
-              λ fits. (
-                λ p e.
-                    let bytes = fits-exactly (f .L) (bodyIn frame) .0 fits .0 ∙ body-length frame (leb-true 17 (length frame) least) in
-                    let few = few-words (leb-true (length frame) 65538 most) bytes in
-                    omega (arith, few, leb-false (0 + drawnByTag-EIA3 (f .L)) limit p),
-                λ words. tt,
-              ),
-            ),
-          ),
-        ),
-      ),
-    ),
-  )
+  -- and then the limit is far off: a body of at most 65521 bytes draws few words
+  abbrev words : ℕ
+  words = drawnByTag-EIA3 (f .L)
+
+  few-words : Writable CK IK f frame → 0 + words ≤ limit
+  few-words w = omega (arith, w .most, w .body-bytes)
+
+  limit-place : Place (writeTests CK IK f frame) (limitTest 0 words)
+  limit-place =
+      record {
+        before = formTests;
+        after = [];
+        there = refl;
+        refusal = λ e. omega arith;
+        none-before = (λ e. omega arith, (λ e. omega arith, (λ e. omega arith, (λ e. omega arith, (λ e. omega arith, (λ e. omega arith, tt))))));
+        none-after = tt;
+      }
 
   module _ (o : Written) (told : o ≡ writeOutcome CK IK f frame) where
     -- WHEN A WRITE IS ACCEPTED
     pub write-accepted : (o .number ≡ accepted) ↔ Writable CK IK f frame
     unfolding writeOutcome
     write-accepted =
-        (λ e. passed-writable (told-exactly writing o told .0 e), λ w. told-exactly writing o told .1 (writable-passes w))
+        let exactly = told-exactly writing o told in (
+          λ e. passed-writable (pass-first formTests (limitTest 0 words ∷ []) (exactly .0 e)),
+          λ w. exactly .1 (pass-both formTests (limitTest 0 words ∷ []) (writable-passes w) (le-leb (0 + words) limit (few-words w), tt)),
+        )
 
     -- and what it then leaves; refused, it leaves every byte as it came
     pub write-is : o .number ≡ accepted → o .frame ≡ frameOf CK IK f (bodyIn frame)
@@ -119,10 +113,12 @@ module _ (CK IK : List ℕ) (f : Fields) (frame : List ℕ) where
     unfolding writeOutcome
     refused-write-untouched other = ap (λ (x : Written). x .frame) (told-refused writing o told other)
 
-    -- NO WRITE MEETS 16
+    -- NO WRITE MEETS 16: where its test is reached it passes
     pub write-never-spent : o .number ≡ spent → ⊥
-    unfolding writeOutcome
-    write-never-spent = told-never writing o told spent (λ e. omega arith) never-by-16
+    unfolding writeOutcome limit-place
+    write-never-spent e =
+        let h = told-by writing o told (limitTest 0 words) limit-place .0 e in
+        omega (arith, few-words (passed-writable (h .0)), leb-false (0 + words) limit (h .1))
 
 -- EVERY CONTENT HAS A FRAME: whatever 13 bytes stand before the plain body and whatever four after it, the write is accepted, and every byte of
 -- the frame is by the keys and the contents alone

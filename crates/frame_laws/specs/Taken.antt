@@ -22,8 +22,8 @@ pub record Writable (CK IK : List ℕ) (f : Fields) (frame : List ℕ) : Type 0 
   pub body-bytes : ceil (f .L) 8 ≡ length frame - 17
   pub no-bit-past : NoBitPast (f .L) (bodyIn frame)
 
--- a reader takes these keys and the frame lent, with the masked body at byte 13
-pub record Readable (CK IK frame : List ℕ) : Type 0 where
+-- all that a reader asks of the keys and of the frame lent, with the masked body at byte 13, before it looks at the tag
+pub record Framed (CK IK frame : List ℕ) : Type 0 where
   pub CK-bytes : length CK ≡ 16
   pub IK-bytes : length IK ≡ 16
   pub least : 17 ≤ length frame
@@ -33,7 +33,10 @@ pub record Readable (CK IK frame : List ℕ) : Type 0 where
   pub direction : fieldsIn frame .direction ≤ 1
   pub body-bytes : ceil (fieldsIn frame .L) 8 ≡ length frame - 17
   pub no-bit-past : NoBitPast (fieldsIn frame .L) (bodyIn frame)
-  pub tag : tagIn frame ≡ tagOver IK (fieldsIn frame) (bodyIn frame)
+
+-- and the tag is EIA3's of the masked body
+abbrev pub TagRight : (IK frame : List ℕ) → Type 0
+TagRight IK frame = tagIn frame ≡ tagOver IK (fieldsIn frame) (bodyIn frame)
 
 -- contents that a frame can have: fields in range, and a plain body of L bits, at most 65521 bytes
 pub record Contents (f : Fields) (body : List ℕ) : Type 0 where
