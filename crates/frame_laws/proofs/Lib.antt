@@ -4,3 +4,4 @@ pub mod Parts
 pub mod Told
 pub mod Writing
 pub mod Reading
+pub mod TwoCalls
