@@ -8,12 +8,13 @@ use native.Mathlib.Omega.{arith}
 use lib.ListN.{length}
 use Rattle.standard.specs.Bits.{bytesOf}
 use Rattle.standard.specs.Frame.{Fields, bodyIn, fieldsIn, frameOf, headOf, maskedBody, tagIn, tagOver, withBody}
-use Rattle.standard.specs.Notation.{ceil}
+use Rattle.standard.specs.Notation.{_⟨_⟩, ceil}
 use Rattle.standard.specs.Refusals.{accepted}
 use Rattle.zuc_loading.proofs.Loaded.{Bytes}
 use Rattle.frame.specs.Outcome.{Readout, Written, readOutcome, writeOutcome}
-use Rattle.frame_laws.specs.Taken.{Contents, Framed, NoBitPast, TagRight, Writable}
+use Rattle.frame_laws.specs.Taken.{Contents, Framed, NoBitPast, Sealed, TagRight, Writable}
 use Rattle.frame_laws.proofs.Fits.{masked-clear, masked-length, masked-twice}
+use Rattle.frame_laws.proofs.Joined.{four-lt}
 use Rattle.frame_laws.proofs.Parts.{body-length, body-there, frame-is, frameOf-body, frameOf-fields, frameOf-length, frameOf-tag, frameOf-two, frameOf-version, head-length, headIn, tail-length, tailIn}
 use Rattle.frame_laws.proofs.Reading.{accepted-framed, framed-accepted, read-is}
 use Rattle.frame_laws.proofs.Writing.{every-content, write-accepted, write-is}
@@ -140,3 +141,24 @@ module _ (CK IK a b : List ℕ) (small : Bytes a) (small′ : Bytes b)
   pub one-frame : read .fields ≡ read′ .fields → bodyIn (read .frame) ≡ bodyIn (read′ .frame) → a ≡ b
   one-frame fields plain =
       accepted-is-frame CK IK a small read told ok ∙ ap₂ (frameOf CK IK) fields plain ∙ sym (accepted-is-frame CK IK b small′ read′ told′ ok′)
+
+-- A READER TAKES THE STANDARD'S FRAMES and no others
+module _ (CK IK frame : List ℕ) (small : Bytes frame) (read : Readout) (told : read ≡ readOutcome CK IK frame) where
+  accepted-sealed : read .number ≡ accepted → Sealed CK IK frame
+  accepted-sealed ok =
+      let w = framed CK IK frame small read told ok in
+      record {
+        CK-bytes = w .CK-bytes;
+        IK-bytes = w .IK-bytes;
+        fields = fieldsIn frame;
+        body = plain CK IK frame small read told ok;
+        count = four-lt (frame ⟨ 3 ⟩) (frame ⟨ 4 ⟩) (frame ⟨ 5 ⟩) (frame ⟨ 6 ⟩) (small 3) (small 4) (small 5) (small 6);
+        contents = plain-contents CK IK frame small read told ok;
+        is = frame-of-plain CK IK frame small read told ok;
+      }
+
+  pub reads-frames : (read .number ≡ accepted) ↔ Sealed CK IK frame
+  reads-frames = (
+    accepted-sealed,
+    λ s. made-read CK IK (s .fields) (s .body) (s .contents) (s .CK-bytes) (s .IK-bytes) (s .count) read (told ∙ ap (readOutcome CK IK) (s .is)) .0,
+  )

@@ -1,10 +1,10 @@
 -- What a writer and a reader take, in the words of request 2026-01, without the order in which it is tested.
 use mathlib.Core.List.{List}
 use mathlib.Core.Path.{_≡_}
-use Prim.Native.Nat.{ℕ, _-_, _≤_}
+use Prim.Native.Nat.{ℕ, _-_, _^_, _<_, _≤_}
 use lib.ListN.{length}
 use Rattle.standard.specs.Bits.{M}
-use Rattle.standard.specs.Frame.{Fields, bodyIn, fieldsIn, tagIn, tagOver, twoAt}
+use Rattle.standard.specs.Frame.{Fields, bodyIn, fieldsIn, frameOf, tagIn, tagOver, twoAt}
 use Rattle.standard.specs.Notation.{_⟨_⟩, ceil}
 
 -- no bit of the body is set at L or past it
@@ -45,3 +45,13 @@ pub record Contents (f : Fields) (body : List ℕ) : Type 0 where
   pub most : length body ≤ 65521
   pub bytes : ceil (f .L) 8 ≡ length body
   pub no-bit-past : NoBitPast (f .L) body
+
+-- a frame of some contents under two keys of 16 bytes, with a COUNT of 32 bits
+pub record Sealed (CK IK frame : List ℕ) : Type 0 where
+  pub CK-bytes : length CK ≡ 16
+  pub IK-bytes : length IK ≡ 16
+  pub fields : Fields
+  pub body : List ℕ
+  pub count : fields .COUNT < 2 ^ 32
+  pub contents : Contents fields body
+  pub is : frame ≡ frameOf CK IK fields body
