@@ -21,7 +21,7 @@ use Rattle.standard.proofs.Masking.{length-masked, twice-clean, zero-clean}
 use Rattle.standard.proofs.Table.{and-left, and-right}
 use Rattle.frame_laws.specs.Taken.{NoBitPast}
 
--- a byte whose bits from place k on are zeros
+-- a number whose m lowest bits are zeros, and a byte whose bits from place k on are
 low-clear : (x m : ℕ) → ((j : ℕ) → j < m → x / 2 ^ j % 2 ≡ 0) → x % 2 ^ m ≡ 0
 low-clear x zero clear = omega arith
 low-clear x (suc m) clear =
@@ -29,10 +29,7 @@ low-clear x (suc m) clear =
     ap (λ (n : ℕ). x % 2 ^ n) e
     ∙ mod-pow-add x 1 m
     ∙ ap₂ (λ (a b : ℕ). a * 2 ^ m + b) (clear m (omega arith)) (low-clear x m (λ j h. clear j (omega arith)))
-    ∙ zero-times
-  where
-    zero-times : 0 * 2 ^ m + 0 ≡ 0
-    zero-times = omega arith
+    ∙ omega arith
 
 keeps-clear : (k x : ℕ) → ((p : ℕ) → k ≤ p → p < 8 → bitOf 8 x p ≡ 0) → x ≡ keepHigh k x
 unfolding keepHigh bitOf
@@ -41,7 +38,7 @@ keeps-clear k x clear =
 
 module _ (L : ℕ) (body : List ℕ) where
   -- the body is its own clearing past L
-  pub past-cleared : NoBitPast L body → body ≡ clearedPast L body
+  past-cleared : NoBitPast L body → body ≡ clearedPast L body
   unfolding M bitAt keptByClean
   past-cleared clear =
       is-each (λ j. keepHigh (keptByClean L j)) 0 body body refl
@@ -65,10 +62,10 @@ module _ (L : ℕ) (body : List ℕ) where
   unfolding keptByClean
   last-cleared e last =
       is-each (λ j. keepHigh (keptByClean L j)) 0 body body refl
-      (λ j h. ⊎-elim (λ z. at-last j h (omega arith)) (λ p. before j (omega arith)) (eq-zero-or-pos (length body - 1 - j)) ∙ ap (λ (n : ℕ). keepHigh (keptByClean L n) (body ⟨ j ⟩)) (sym (zero-add j)))
+      (λ j h. ⊎-elim (λ z. at-last j (omega arith)) (λ p. before j (omega arith)) (eq-zero-or-pos (length body - 1 - j)) ∙ ap (λ (n : ℕ). keepHigh (keptByClean L n) (body ⟨ j ⟩)) (sym (zero-add j)))
     where
-      at-last : (j : ℕ) → j < length body → j ≡ length body - 1 → body ⟨ j ⟩ ≡ keepHigh (keptByClean L j) (body ⟨ j ⟩)
-      at-last j h is = rw is (sym last)
+      at-last : (j : ℕ) → j ≡ length body - 1 → body ⟨ j ⟩ ≡ keepHigh (keptByClean L j) (body ⟨ j ⟩)
+      at-last j is = rw is (sym last)
 
       before : (j : ℕ) → j < length body - 1 → body ⟨ j ⟩ ≡ keepHigh (keptByClean L j) (body ⟨ j ⟩)
       before j h = let all : keptByClean L j ≡ 8 = omega arith in sym (ap (λ (k : ℕ). keepHigh k (body ⟨ j ⟩)) all ∙ keep-all (body ⟨ j ⟩))

@@ -1,5 +1,5 @@
 -- A number of two or four bytes and its bytes: each gives the other back. By quotient and remainder.
-use mathlib.Core.List.{List, [], _∷_}
+use mathlib.Core.List.{[], _∷_}
 use mathlib.Core.Path.{_≡_, sym, _∙_}
 use Prim.Native.Nat.{ℕ, _<_, _%_, _^_}
 use native.Mathlib.Omega.{arith}

@@ -1,15 +1,15 @@
 -- A frame by its parts: 13 bytes, a body, and four bytes. Where each stands, and that a frame of bytes with the right version and length field is
 -- the standard's head of its fields, its body and its tag's bytes. By the laws of lists, and by entries.
 use mathlib.Core.List.{List, [], _∷_, _++_}
-use mathlib.Core.Path.{_≡_, refl, sym, ap, ap₂, subst, _∙_}
+use mathlib.Core.Path.{_≡_, refl, sym, ap, ap₂, _∙_}
 use Prim.Native.Nat.{ℕ, _+_, _-_, _<_, _≤_, _^_}
-use native.Mathlib.Nat.{add-zero, zero-add}
+use native.Mathlib.Nat.{add-zero}
 use native.Mathlib.Omega.{arith}
 use lib.Bits.{xor-lt}
-use lib.ListN.{drop, getD, length, length-append, length-drop, take, take-append-drop}
+use lib.ListN.{drop, length, length-append, length-drop, take, take-append-drop}
 use lib.Seq.{drop-at, getD-append-add, getD-drop, getD-take, length-take-le, take-at}
 use Rattle.standard.specs.Bits.{byteOf, bytesOf, z}
-use Rattle.standard.specs.Frame.{Fields, bodyIn, fieldsIn, fourAt, frameOf, headOf, maskedBody, tagIn, tagOver, twoAt, withBody}
+use Rattle.standard.specs.Frame.{Fields, bodyIn, fieldsIn, fourAt, frameOf, headOf, maskedBody, tagIn, tagOver, twoAt}
 use Rattle.standard.specs.Integrity.{tag-EIA3}
 use Rattle.standard.specs.Notation.{_⟨_⟩, _‖₈_, listed}
 use Rattle.standard.proofs.Listed.{is-listed}
@@ -37,17 +37,12 @@ module _ (head body tail : List ℕ) (before : length head ≡ 13) (after : leng
   body-there =
       ap (take (length whole - 17)) (drop-at head (body ++ tail) 13 before) ∙ take-at body tail (length whole - 17) (omega (arith, whole-length))
 
-  pub body-changed : (other : List ℕ) → withBody whole other ≡ head ++ (other ++ tail)
-  body-changed other =
-      ap₂ (λ (h t : List ℕ). h ++ (other ++ t)) (take-at head (body ++ tail) 13 before)
-      (ap (drop (length whole - 17)) (drop-at head (body ++ tail) 13 before) ∙ drop-at body tail (length whole - 17) (omega (arith, whole-length)))
-
   tail-at : (k i : ℕ) → k ≡ length whole - 4 + i → whole ⟨ k ⟩ ≡ tail ⟨ i ⟩
   tail-at k i e =
       let place : k ≡ length head + (length body + i) = omega (arith, whole-length) in
       ap (λ (n : ℕ). whole ⟨ n ⟩) place ∙ getD-append-add head (body ++ tail) (length body + i) 0 ∙ getD-append-add body tail i 0
 
-  pub tag-there : tagIn whole ≡ fourAt tail 0
+  tag-there : tagIn whole ≡ fourAt tail 0
   tag-there =
       let at = length whole - 4 in
       let a = tail-at at 0 (omega arith) in
@@ -66,7 +61,7 @@ module _ (frame : List ℕ) (least : 17 ≤ length frame) where
   pub body-length : length (bodyIn frame) ≡ length frame - 17
   body-length = length-take-le (length frame - 17) (drop 13 frame) (omega (arith, length-drop 13 frame))
 
-  pub parts : headIn frame ++ (bodyIn frame ++ tailIn frame) ≡ frame
+  parts : headIn frame ++ (bodyIn frame ++ tailIn frame) ≡ frame
   parts = ap (λ (l : List ℕ). headIn frame ++ l) (take-append-drop (length frame - 17) (drop 13 frame)) ∙ take-append-drop 13 frame
 
 -- A FRAME OF BYTES is built of its fields, its body and its tag
@@ -74,7 +69,7 @@ module _ (frame : List ℕ) (least : 17 ≤ length frame) (small : Bytes frame) 
   four-bytes : (i : ℕ) → frame ⟨ i ⟩ ∷ frame ⟨ i + 1 ⟩ ∷ frame ⟨ i + 2 ⟩ ∷ frame ⟨ i + 3 ⟩ ∷ [] ≡ bytesOf (fourAt frame i)
   four-bytes i = bytes-of-four (frame ⟨ i ⟩) (frame ⟨ i + 1 ⟩) (frame ⟨ i + 2 ⟩) (frame ⟨ i + 3 ⟩) (small i) (small (i + 1)) (small (i + 2)) (small (i + 3))
 
-  pub head-is : frame ⟨ 0 ⟩ ≡ 1 → twoAt frame 1 ≡ length frame - 3 → headIn frame ≡ headOf (fieldsIn frame) (length frame - 17)
+  head-is : frame ⟨ 0 ⟩ ≡ 1 → twoAt frame 1 ≡ length frame - 3 → headIn frame ≡ headOf (fieldsIn frame) (length frame - 17)
   unfolding headOf listed
   head-is version field =
       let two = bytes-of-two (frame ⟨ 1 ⟩) (frame ⟨ 2 ⟩) (small 1) (small 2) in
@@ -86,7 +81,7 @@ module _ (frame : List ℕ) (least : 17 ≤ length frame) (small : Bytes frame) 
       is-listed (λ i. frame ⟨ i ⟩) (headIn frame) 13 (head-length frame least) (λ k h. getD-take 13 frame k 0 h)
       ∙ (λ i. version i ∷ high i ∷ low i ∷ [] ++ count i ++ (frame ⟨ 7 ⟩ ∷ frame ⟨ 8 ⟩ ∷ []) ++ bits i)
 
-  pub tail-is : tailIn frame ≡ bytesOf (tagIn frame)
+  tail-is : tailIn frame ≡ bytesOf (tagIn frame)
   unfolding listed
   tail-is =
       is-listed (λ i. frame ⟨ length frame - 4 + i ⟩) (tailIn frame) 4 (tail-length frame least)
@@ -100,7 +95,7 @@ module _ (frame : List ℕ) (least : 17 ≤ length frame) (small : Bytes frame) 
       sym (parts frame least) ∙ ap₂ (λ (h t : List ℕ). h ++ (bodyIn frame ++ t)) (head-is version field) tail-is
 
 -- THE STANDARD'S FRAME: its length, and what stands in it
-pub tag-lt : (IK : List ℕ) (f : Fields) (masked : List ℕ) → tagOver IK f masked < 2 ^ 32
+tag-lt : (IK : List ℕ) (f : Fields) (masked : List ℕ) → tagOver IK f masked < 2 ^ 32
 unfolding tagOver tag-EIA3 z
 tag-lt IK f masked =
     xor-lt 32 _ _ (xor-lt 32 _ _ (sum-lt 32 _ (bitAt-lt 32 _) 0 _ (f .L)) (window-lt _ (bitAt-lt 32 _) (f .L) 32)) (window-lt _ (bitAt-lt 32 _) _ 32)

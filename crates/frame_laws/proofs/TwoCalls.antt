@@ -2,12 +2,12 @@
 -- with its contents. By the parts of a frame, since a body that fits is plain again when masked twice.
 use mathlib.Core.List.{List, _++_}
 use mathlib.Core.Logic.{_↔_}
-use mathlib.Core.Path.{_≡_, refl, sym, ap, ap₂, subst, _∙_}
-use Prim.Native.Nat.{ℕ, _+_, _-_, _^_, _<_, _≤_}
+use mathlib.Core.Path.{_≡_, sym, ap, ap₂, subst, _∙_}
+use Prim.Native.Nat.{ℕ, _-_, _^_, _<_, _≤_}
 use native.Mathlib.Omega.{arith}
 use lib.ListN.{length}
 use Rattle.standard.specs.Bits.{bytesOf}
-use Rattle.standard.specs.Frame.{Fields, bodyIn, fieldsIn, frameOf, headOf, maskedBody, tagIn, tagOver, withBody}
+use Rattle.standard.specs.Frame.{Fields, bodyIn, fieldsIn, frameOf, headOf, maskedBody, tagOver, withBody}
 use Rattle.standard.specs.Notation.{_⟨_⟩, ceil}
 use Rattle.standard.specs.Refusals.{accepted}
 use Rattle.zuc_loading.proofs.Loaded.{Bytes}

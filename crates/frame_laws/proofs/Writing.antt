@@ -1,10 +1,9 @@
 -- When a frame is written (request 2026-01): exactly if keys, lengths, fields and body are as said, so that every content has a frame; a refused write
 -- leaves the frame as it came. By the tests' values.
-use mathlib.Core.Bool.{true}
 use mathlib.Core.List.{List, [], _∷_, _++_}
 use mathlib.Core.Logic.{_↔_}
 use mathlib.Core.Path.{_≡_, refl, sym, ap, subst, _∙_}
-use Prim.Native.Nat.{ℕ, _+_, _-_, _/_, _≤_}
+use Prim.Native.Nat.{ℕ, _+_, _≤_}
 use native.Mathlib.Omega.{arith}
 use borrow.Author.Tests.{eq-eqb, eqb-true, le-leb, leb-false, leb-true}
 use lib.Dec.{leb, lit<}
@@ -51,7 +50,7 @@ module _ (CK IK : List ℕ) (f : Fields) (frame : List ℕ) where
         CK-bytes = eqb-true (length CK) 16 (all .0);
         IK-bytes = eqb-true (length IK) 16 (all .1 .0);
         least = least;
-        most = leb-true (length frame) 65538 (all .1 .1 .1 .0);
+        most = omega (arith, leb-true (length frame) 65538 (all .1 .1 .1 .0));
         bearer = field .0;
         direction = field .1;
         body-bytes = fits .0 ∙ body-length frame least;
@@ -66,7 +65,7 @@ module _ (CK IK : List ℕ) (f : Fields) (frame : List ℕ) where
       (
         le-leb 17 (length frame) (w .least),
         (
-          le-leb (length frame) 65538 (w .most),
+          le-leb (length frame) 65538 (omega (arith, w .most)),
           (
             field-passes (f .bearer) (f .direction) (w .bearer, w .direction),
             (fits-exactly (f .L) (bodyIn frame) .1 (w .body-bytes ∙ sym (body-length frame (w .least)), w .no-bit-past), tt),
