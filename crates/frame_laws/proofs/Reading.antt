@@ -12,13 +12,13 @@ use lib.ListN.{length}
 use Rattle.standard.specs.Frame.{bodyIn, fieldsIn, maskedBody, tagIn, tagOver, twoAt, withBody}
 use Rattle.standard.specs.Integrity.{drawnByTag-EIA3}
 use Rattle.standard.specs.Notation.{_⟨_⟩, if_then_else_}
-use Rattle.standard.specs.Refusals.{Test, accepted, badFrame, badKey, badLength, badTag, fieldTest, keyTest, limitTest, spent, tested}
+use Rattle.standard.specs.Refusals.{Test, accepted, badFrame, badKey, badLength, badTag, keyTest, spent, tested}
 use Rattle.standard.specs.States.{limit}
 use Rattle.standard.proofs.Fields.{field-passed, field-passes}
 use Rattle.standard.proofs.Table.{and-left, and-right}
 use Rattle.standard.proofs.Tested.{AllPass}
 use Rattle.zuc_loading.proofs.Loaded.{Bytes}
-use Rattle.frame.specs.Outcome.{Readout, bodyTest, noFields, readOutcome, readTests}
+use Rattle.frame.specs.Outcome.{Readout, bodyTest, drawTest, lengthTest, noFields, rangeTest, readOutcome, readTests, tagTest, versionTest}
 use Rattle.frame_laws.specs.Taken.{Framed, TagRight}
 use Rattle.frame_laws.proofs.Fits.{fits-exactly}
 use Rattle.frame_laws.proofs.Joined.{four-lt}
@@ -39,15 +39,11 @@ module _ (CK IK frame : List ℕ) where
       }
 
   -- the tests before those of the limit and the tag say just that there is a frame's form
-  abbrev lengthTest : Test
-  lengthTest = record { passes = eqb (twoAt frame 1) (length frame - 3); number = badLength }
-
   abbrev beforeLength : List Test
-  beforeLength = keyTest 16 CK ∷ keyTest 16 IK ∷ record { passes = leb 17 (length frame) && eqb (frame ⟨ 0 ⟩) 1; number = badFrame } ∷ []
+  beforeLength = keyTest 16 CK ∷ keyTest 16 IK ∷ versionTest frame ∷ []
 
   abbrev formTests : List Test
-  formTests =
-      beforeLength ++ (lengthTest ∷ fieldTest (fieldsIn frame .bearer) (fieldsIn frame .direction) ∷ bodyTest (fieldsIn frame .L) (bodyIn frame) ∷ [])
+  formTests = beforeLength ++ (lengthTest frame ∷ rangeTest (fieldsIn frame) ∷ bodyTest (fieldsIn frame) frame ∷ [])
 
   passed-framed : AllPass formTests → Framed CK IK frame
   passed-framed all =
@@ -87,35 +83,32 @@ module _ (CK IK frame : List ℕ) where
   abbrev words : ℕ
   words = drawnByTag-EIA3 (fieldsIn frame .L)
 
-  abbrev tagTest : Test
-  tagTest = record { passes = eqb (tagIn frame) (tagOver IK (fieldsIn frame) (bodyIn frame)); number = badTag }
-
-  length-place : Place (readTests CK IK frame) lengthTest
+  length-place : Place (readTests CK IK frame) (lengthTest frame)
   length-place =
       record {
         before = beforeLength;
-        after = fieldTest (fieldsIn frame .bearer) (fieldsIn frame .direction) ∷ bodyTest (fieldsIn frame .L) (bodyIn frame) ∷ limitTest 0 words ∷ tagTest ∷ [];
+        after = rangeTest (fieldsIn frame) ∷ bodyTest (fieldsIn frame) frame ∷ drawTest (fieldsIn frame) ∷ tagTest IK frame ∷ [];
         there = refl;
         refusal = λ e. omega arith;
         none-before = (λ e. omega arith, (λ e. omega arith, (λ e. omega arith, tt)));
         none-after = (λ e. omega arith, (λ e. omega arith, (λ e. omega arith, (λ e. omega arith, tt))));
       }
 
-  limit-place : Place (readTests CK IK frame) (limitTest 0 words)
+  limit-place : Place (readTests CK IK frame) (drawTest (fieldsIn frame))
   limit-place =
       record {
         before = formTests;
-        after = tagTest ∷ [];
+        after = tagTest IK frame ∷ [];
         there = refl;
         refusal = λ e. omega arith;
         none-before = (λ e. omega arith, (λ e. omega arith, (λ e. omega arith, (λ e. omega arith, (λ e. omega arith, (λ e. omega arith, tt))))));
         none-after = (λ e. omega arith, tt);
       }
 
-  tag-place : Place (readTests CK IK frame) tagTest
+  tag-place : Place (readTests CK IK frame) (tagTest IK frame)
   tag-place =
       record {
-        before = formTests ++ (limitTest 0 words ∷ []);
+        before = formTests ++ (drawTest (fieldsIn frame) ∷ []);
         after = [];
         there = refl;
         refusal = λ e. omega arith;
@@ -129,7 +122,7 @@ module _ (CK IK frame : List ℕ) where
     unfolding readOutcome
     accepted-framed e =
         let all = told-exactly reading o told .0 e in (
-          passed-framed (pass-first formTests (limitTest 0 words ∷ tagTest ∷ []) all),
+          passed-framed (pass-first formTests (drawTest (fieldsIn frame) ∷ tagTest IK frame ∷ []) all),
           eqb-true (tagIn frame) (tagOver IK (fieldsIn frame) (bodyIn frame)) (all .1 .1 .1 .1 .1 .1 .1 .0),
         )
 
@@ -159,25 +152,25 @@ module _ (CK IK frame : List ℕ) where
       unfolding readOutcome
       framed-accepted w right =
           told-exactly reading o told .1
-          (pass-both formTests (limitTest 0 words ∷ tagTest ∷ []) (framed-passes w)
+          (pass-both formTests (drawTest (fieldsIn frame) ∷ tagTest IK frame ∷ []) (framed-passes w)
           (le-leb (0 + words) limit few-words, (eq-eqb (tagIn frame) (tagOver IK (fieldsIn frame) (bodyIn frame)) right, tt)))
 
       framed-wrong : Framed CK IK frame → (TagRight IK frame → ⊥) → o .number ≡ badTag
       unfolding readOutcome tag-place
       framed-wrong w wrong =
-          told-by reading o told tagTest tag-place .1
-          (pass-both formTests (limitTest 0 words ∷ []) (framed-passes w) (le-leb (0 + words) limit few-words, tt), ne-eqb (tagIn frame) (tagOver IK (fieldsIn frame) (bodyIn frame)) wrong)
+          told-by reading o told (tagTest IK frame) tag-place .1
+          (pass-both formTests (drawTest (fieldsIn frame) ∷ []) (framed-passes w) (le-leb (0 + words) limit few-words, tt), ne-eqb (tagIn frame) (tagOver IK (fieldsIn frame) (bodyIn frame)) wrong)
 
       never-reached : o .number ≡ spent → ⊥
       unfolding readOutcome limit-place
       never-reached e =
-          omega (arith, few-words, leb-false (0 + words) limit (told-by reading o told (limitTest 0 words) limit-place .0 e .1))
+          omega (arith, few-words, leb-false (0 + words) limit (told-by reading o told (drawTest (fieldsIn frame)) limit-place .0 e .1))
 
     wrong-framed : o .number ≡ badTag → Framed CK IK frame × (TagRight IK frame → ⊥)
     unfolding readOutcome tag-place
     wrong-framed e =
-        let h = told-by reading o told tagTest tag-place .0 e in
-        (passed-framed (pass-first formTests (limitTest 0 words ∷ []) (h .0)), eqb-false (tagIn frame) (tagOver IK (fieldsIn frame) (bodyIn frame)) (h .1))
+        let h = told-by reading o told (tagTest IK frame) tag-place .0 e in
+        (passed-framed (pass-first formTests (drawTest (fieldsIn frame) ∷ []) (h .0)), eqb-false (tagIn frame) (tagOver IK (fieldsIn frame) (bodyIn frame)) (h .1))
 
     module _ (small : Bytes frame) where
       low : fieldsIn frame .L < 2 ^ 32
@@ -202,7 +195,7 @@ module _ (CK IK frame : List ℕ) where
         pub too-long-by-7 : length CK ≡ 16 → length IK ≡ 16 → frame ⟨ 0 ⟩ ≡ 1 → o .number ≡ badLength
         unfolding readOutcome length-place
         too-long-by-7 ck ik version =
-            told-by reading o told lengthTest length-place .1
+            told-by reading o told (lengthTest frame) length-place .1
             ((eq-eqb (length CK) 16 ck, (eq-eqb (length IK) 16 ik, (ap₂ _&&_ (le-leb 17 (length frame) (omega arith)) (eq-eqb (frame ⟨ 0 ⟩) 1 version), tt))), other-length)
 
         pub too-long-refused : (o .number ≡ badKey) ⊎ ((o .number ≡ badFrame) ⊎ (o .number ≡ badLength))

@@ -6,15 +6,15 @@ use mathlib.Core.Path.{_≡_, refl, sym, ap, subst, _∙_}
 use Prim.Native.Nat.{ℕ, _+_, _≤_}
 use native.Mathlib.Omega.{arith}
 use borrow.Author.Tests.{eq-eqb, eqb-true, le-leb, leb-false, leb-true}
-use lib.Dec.{leb, lit<}
+use lib.Dec.{lit<}
 use lib.ListN.{length}
 use Rattle.standard.specs.Frame.{Fields, bodyIn, frameOf}
 use Rattle.standard.specs.Integrity.{drawnByTag-EIA3}
-use Rattle.standard.specs.Refusals.{Test, accepted, badFrame, badLength, fieldTest, keyTest, limitTest, spent}
+use Rattle.standard.specs.Refusals.{Test, accepted, keyTest, spent}
 use Rattle.standard.specs.States.{limit}
 use Rattle.standard.proofs.Fields.{field-passed, field-passes}
 use Rattle.standard.proofs.Tested.{AllPass}
-use Rattle.frame.specs.Outcome.{Written, bodyTest, writeOutcome, writeTests}
+use Rattle.frame.specs.Outcome.{Written, bodyTest, drawTest, leastTest, mostTest, rangeTest, writeOutcome, writeTests}
 use Rattle.frame_laws.specs.Taken.{Contents, NoBitPast, Writable}
 use Rattle.frame_laws.proofs.Fits.{fits-exactly}
 use Rattle.frame_laws.proofs.Parts.{body-length, body-there, whole-length}
@@ -36,10 +36,7 @@ module _ (CK IK : List ℕ) (f : Fields) (frame : List ℕ) where
   -- the tests before that of the limit say just what a writer takes
   abbrev formTests : List Test
   formTests =
-      keyTest 16 CK ∷ keyTest 16 IK
-      ∷ record { passes = leb 17 (length frame); number = badFrame }
-      ∷ record { passes = leb (length frame) 65538; number = badLength }
-      ∷ fieldTest (f .bearer) (f .direction) ∷ bodyTest (f .L) (bodyIn frame) ∷ []
+      keyTest 16 CK ∷ keyTest 16 IK ∷ leastTest frame ∷ mostTest frame ∷ rangeTest f ∷ bodyTest f frame ∷ []
 
   passed-writable : AllPass formTests → Writable CK IK f frame
   passed-writable all =
@@ -82,7 +79,7 @@ module _ (CK IK : List ℕ) (f : Fields) (frame : List ℕ) where
   few-words : Writable CK IK f frame → 0 + words ≤ limit
   few-words w = omega (arith, w .most, w .body-bytes)
 
-  limit-place : Place (writeTests CK IK f frame) (limitTest 0 words)
+  limit-place : Place (writeTests CK IK f frame) (drawTest f)
   limit-place =
       record {
         before = formTests;
@@ -99,8 +96,8 @@ module _ (CK IK : List ℕ) (f : Fields) (frame : List ℕ) where
     unfolding writeOutcome
     write-accepted =
         let exactly = told-exactly writing o told in (
-          λ e. passed-writable (pass-first formTests (limitTest 0 words ∷ []) (exactly .0 e)),
-          λ w. exactly .1 (pass-both formTests (limitTest 0 words ∷ []) (writable-passes w) (le-leb (0 + words) limit (few-words w), tt)),
+          λ e. passed-writable (pass-first formTests (drawTest f ∷ []) (exactly .0 e)),
+          λ w. exactly .1 (pass-both formTests (drawTest f ∷ []) (writable-passes w) (le-leb (0 + words) limit (few-words w), tt)),
         )
 
     -- and what it then leaves; refused, it leaves every byte as it came
@@ -116,7 +113,7 @@ module _ (CK IK : List ℕ) (f : Fields) (frame : List ℕ) where
     pub write-never-spent : o .number ≡ spent → ⊥
     unfolding writeOutcome limit-place
     write-never-spent e =
-        let h = told-by writing o told (limitTest 0 words) limit-place .0 e in
+        let h = told-by writing o told (drawTest f) limit-place .0 e in
         omega (arith, few-words (passed-writable (h .0)), leb-false (0 + words) limit (h .1))
 
 -- EVERY CONTENT HAS A FRAME: whatever 13 bytes stand before the plain body and whatever four after it, the write is accepted, and every byte of
