@@ -8,13 +8,16 @@
  * ANSWERS. Every function returns 0 when it has done its work and otherwise the
  * number of a refusal. Where several apply, the one that is checked first is
  * given, in the order in which they stand below: ZUC_BAD_WIDTH .. ZUC_SPENT, of
- * which ZUC_BAD_FIELD comes directly after ZUC_BAD_KEY; those of a guard in the
- * order ZUC_BAD_LINK, ZUC_BAD_AGE, ZUC_BAD_REUSE.
+ * which ZUC_BAD_FIELD comes directly after ZUC_BAD_KEY; those of a frame in the
+ * order ZUC_BAD_KEY, ZUC_BAD_FRAME, ZUC_BAD_LENGTH, ZUC_BAD_FIELD, ZUC_BAD_BODY,
+ * ZUC_BAD_TAG; those of a guard in the order ZUC_BAD_LINK, ZUC_BAD_AGE,
+ * ZUC_BAD_REUSE.
  *
  * REFUSALS ALTER NOTHING that a caller could go on with:
  *   - a state that was lent to a draw, mask, update or finish stays as it came,
- *     and so does every buffer, `out` of zuc_words included, and every link;
- *   - *word, *count, *drawn, tag[0] and tag[1] are set to 0;
+ *     and so does every buffer, `out` of zuc_words included, every frame and every
+ *     link;
+ *   - *word, *count, *drawn, tag[0], tag[1] and fields[0..3] are set to 0;
  *   - a start fills its state with zeros. Every later call refuses such a state
  *     (ZUC_BAD_STATE), so a start whose answer nobody looked at masks nothing.
  *
@@ -33,9 +36,9 @@
  *
  * LENDING. A pointer with a length `n` is to n elements; it may be NULL if n is
  * 0. Every other pointer is to one object of the type shown and is not NULL.
- * What a function writes to (state, buf, out, word, count, drawn, tag, links)
- * overlaps nothing else that the same call is lent. Nothing is kept after a
- * function returns.
+ * What a function writes to (state, buf, out, word, count, drawn, tag, frame,
+ * fields, links) overlaps nothing else that the same call is lent. Nothing is kept
+ * after a function returns.
  *
  * STRICT FORMS. BEARER has 5 bits and DIRECTION one. The functions of 128-EEA3 and
  * 128-EIA3 take of other numbers the low bits, as the Rust crate zuc 0.4.1 does: a
@@ -80,14 +83,18 @@ extern "C" {
  */
 #define ZUC_TAG_WORDS 21
 
-/* Refusals, in the order in which they are checked; the guard's own come last. */
+/* Refusals, in the order in which they are checked; a frame's own and the guard's come last. */
 #define ZUC_BAD_WIDTH 1u /* the tag width is not 4, 8 or 16 bytes */
 #define ZUC_BAD_KEY 2u   /* the key is not 16 bytes, or 32 for ZUC-256 */
-#define ZUC_BAD_FIELD 8u /* a strict form: bearer above 31 or direction above 1 */
+#define ZUC_BAD_FIELD 8u /* a strict form or a frame: bearer above 31 or direction above 1 */
 #define ZUC_BAD_IV 3u    /* the IV is not 16 bytes, or 23 for ZUC-256 */
 #define ZUC_BAD_STATE 4u /* the state is malformed: refused, finished or spoilt */
 #define ZUC_BAD_BITS 5u  /* the bit length is more than 8 times the bytes lent */
 #define ZUC_SPENT 16u    /* the call would draw more words than the start has left */
+#define ZUC_BAD_FRAME 6u /* fewer than 17 bytes lent, or the frame's version is not 1 */
+#define ZUC_BAD_LENGTH 7u /* the length field is not len - 3; writing: len above 65538 */
+#define ZUC_BAD_BODY 9u  /* bits/8, rounded up, is not len - 17; or a bit past them is set */
+#define ZUC_BAD_TAG 10u  /* the frame's tag is wrong */
 #define ZUC_BAD_LINK 13u /* no such link in the table */
 #define ZUC_BAD_AGE 12u  /* the COUNT is more than 63 below the highest */
 #define ZUC_BAD_REUSE 11u /* the COUNT was already accepted */
@@ -397,6 +404,60 @@ uint32_t zuc256_tag(size_t width,
                     const uint8_t *iv, size_t iv_len,
                     const uint8_t *msg, size_t len, size_t bits,
                     uint64_t tag[2]);
+
+/* ---------------------------------------------------------------------------
+ * Sealed frames, which another vendor can read: docs/FRAME.md has the bytes, the
+ * checks in their order, and worked frames. A frame of `len` bytes, 17 to 65538, is
+ *
+ *   0        the version, 1
+ *   1..2     len - 3                        (all numbers have their highest byte first)
+ *   3..6     COUNT
+ *   7, 8     bearer, direction
+ *   9..12    the bit length of the body
+ *   13..     the body, len - 17 bytes: masked by 128-EEA3 in clean mode under `ck`
+ *   len-4..  the tag: 128-EIA3 of the masked body's bits under `ik`
+ *
+ * Each function is lent two keys of 16 bytes and the whole frame, and needs no other
+ * memory. What is written is read back: the same fields and the same plain body; and
+ * an accepted frame is the only one with its fields and plain body under its keys.
+ *
+ * THE TWO KEYS MUST DIFFER. At direction 0 EEA3 and EIA3 make the same IV, so that one
+ * key for both would mask and tag with one keystream. No refusal tells.
+ *
+ * A FRAME SENT TWICE is accepted twice: after zuc_frame_read ask zuc_guard_accept,
+ * below, before the body is used (tests/c/sealed.c is an example to copy).
+ * ------------------------------------------------------------------------- */
+
+/*
+ * Writes a frame: finds the plain body at byte 13 of `frame`, masks it there and fills
+ * in every other byte, whatever stood there. Every bit of the body past `bits` must be
+ * 0.
+ *
+ * Alters `frame`. Refuses with ZUC_BAD_KEY (either key), ZUC_BAD_FRAME (len below 17),
+ * ZUC_BAD_LENGTH (len above 65538), ZUC_BAD_FIELD, ZUC_BAD_BODY, checked in this order:
+ * every byte of the frame is then as it came. ZUC_SPENT is never met: no frame is long
+ * enough.
+ */
+uint32_t zuc_frame_write(const uint8_t *ck, size_t ck_len,
+                         const uint8_t *ik, size_t ik_len,
+                         uint32_t count, uint8_t bearer, uint8_t direction,
+                         uint32_t bits, uint8_t *frame, size_t len);
+
+/*
+ * Reads a frame: checks it, its tag at the last, and only then unmasks the body where it
+ * stands. No other byte is touched.
+ *
+ * Alters `frame` from byte 13 to byte len - 5 and sets fields[0..3] to COUNT, bearer,
+ * direction and the bit length of the body. Refuses with ZUC_BAD_KEY (either key),
+ * ZUC_BAD_FRAME (len below 17, or the version), ZUC_BAD_LENGTH (so always for len above
+ * 65538, if the version is 1), ZUC_BAD_FIELD, ZUC_BAD_BODY (of the masked body),
+ * ZUC_BAD_TAG, checked in this order: every byte of the frame is then as it came, its
+ * body masked, and fields[0..3] are 0. ZUC_SPENT is never met. All four bytes of a tag
+ * are compared, also when the first one differs.
+ */
+uint32_t zuc_frame_read(const uint8_t *ck, size_t ck_len,
+                        const uint8_t *ik, size_t ik_len,
+                        uint8_t *frame, size_t len, uint32_t fields[4]);
 
 /* ---------------------------------------------------------------------------
  * A guard, so that no COUNT passes twice under one key: two blocks with one

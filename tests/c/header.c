@@ -330,6 +330,38 @@ static void refused_tags(void)
     CHECK(all_zero(tag));
 }
 
+/* A worked frame of docs/FRAME.md, 13 bits, written, read, and refused; frame.c has the rest. */
+static void sealed(void)
+{
+    static const uint8_t ck[16] = {
+        0x17, 0x3d, 0x14, 0xba, 0x50, 0x03, 0x73, 0x1d,
+        0x7a, 0x60, 0x04, 0x94, 0x70, 0xf0, 0x0a, 0x29,
+    };
+    static const uint8_t ik[16] = {
+        0x47, 0x05, 0x41, 0x25, 0x56, 0x1e, 0xb2, 0xdd,
+        0xa9, 0x40, 0x59, 0xda, 0x05, 0x09, 0x78, 0x50,
+    };
+    static const uint8_t whole[19] = {
+        0x01, 0x00, 0x10, 0x56, 0x1e, 0xb2, 0xdd, 0x14, 0x01, 0x00,
+        0x00, 0x00, 0x0d, 0xfe, 0xe0, 0x38, 0x18, 0xcf, 0x61,
+    };
+    uint8_t frame[19] = {0}, before[19];
+    uint32_t fields[4];
+
+    frame[13] = 0xa5;
+    frame[14] = 0x58;
+    CHECK(zuc_frame_write(ck, 16, ik, 16, 0x561eb2dd, 20, 1, 13, frame, 19) == 0);
+    CHECK(memcmp(frame, whole, sizeof frame) == 0);
+    CHECK(zuc_frame_read(ck, 16, ik, 16, frame, 19, fields) == 0);
+    CHECK(fields[0] == 0x561eb2dd && fields[1] == 20 && fields[2] == 1 && fields[3] == 13);
+    CHECK(frame[13] == 0xa5 && frame[14] == 0x58);
+    /* the tag is of the masked body */
+    memcpy(before, frame, sizeof frame);
+    CHECK(zuc_frame_read(ck, 16, ik, 16, frame, 19, fields) == ZUC_BAD_TAG);
+    CHECK(memcmp(frame, before, sizeof frame) == 0);
+    CHECK((fields[0] | fields[1] | fields[2] | fields[3]) == 0);
+}
+
 /* Links are compared whole: a padding byte is nobody's. */
 static int link_is(const struct zuc_link *link, uint32_t highest, uint64_t accepted)
 {
@@ -388,6 +420,7 @@ static void null_pointers(void)
 {
     uint32_t state[ZUC_STATE_WORDS];
     uint64_t tag_state[ZUC_TAG_WORDS], tag[2], other[2];
+    uint32_t fields[4];
     size_t count;
 
     CHECK(zuc128_start(state, NULL, 0, NULL, 0) == ZUC_BAD_KEY);
@@ -424,6 +457,11 @@ static void null_pointers(void)
     CHECK(memcmp(tag, other, sizeof tag) == 0);
     CHECK(zuc256_tag(8, NULL, 0, NULL, 0, NULL, 0, 1, tag) == ZUC_BAD_KEY);
 
+    CHECK(zuc_frame_write(NULL, 0, zeros, 16, 1, 2, 1, 0, NULL, 0) == ZUC_BAD_KEY);
+    CHECK(zuc_frame_write(zeros, 16, zeros, 16, 1, 2, 1, 0, NULL, 0) == ZUC_BAD_FRAME);
+    CHECK(zuc_frame_read(zeros, 16, NULL, 0, NULL, 0, fields) == ZUC_BAD_KEY);
+    CHECK(zuc_frame_read(zeros, 16, zeros, 16, NULL, 0, fields) == ZUC_BAD_FRAME);
+
     CHECK(zuc_guard_accept(NULL, 0, 0, 1) == ZUC_BAD_LINK);
     CHECK(zuc_guard_rekey(NULL, 0, 0) == ZUC_BAD_LINK);
 }
@@ -438,6 +476,7 @@ int main(void)
     refused_starts();
     refused_generators();
     refused_tags();
+    sealed();
     guarded();
     null_pointers();
     printf("header.c: %d checks, %d failed\n", checks, failures);
