@@ -5,8 +5,9 @@
 //! The other modules stand on this one and are what most will want. This one is
 //! for callers who keep states in their own memory, or who want the numbers.
 //!
-//! A refusal leaves a lent state and every buffer as they came and sets `word`,
-//! `count`, `drawn` and `tag` to 0; a refused start fills its state with zeros.
+//! A refusal leaves a lent state, every buffer and every frame as they came and sets
+//! `word`, `count`, `drawn`, `tag` and `fields` to 0; a refused start fills its state
+//! with zeros.
 //!
 //! ```
 //! use yegetmur::capi::{self, STATE_WORDS};
@@ -335,6 +336,38 @@ pub fn zuc256_tag(
     let (key, iv, msg) = (key.as_ptr(), iv.as_ptr(), msg.as_ptr());
     // SAFETY: see the top.
     unsafe { ffi::zuc256_tag(width, key, key_len, iv, iv_len, msg, len, bits, tag) }
+}
+
+/// Writes a frame around the plain body at its byte 13, which is masked there.
+/// [Refuses](crate::Refusal) by Key, Frame, Length, Field, Body, checked in this order.
+pub fn zuc_frame_write(
+    ck: &[u8],
+    ik: &[u8],
+    count: u32,
+    bearer: u8,
+    direction: u8,
+    bits: u32,
+    frame: &mut [u8],
+) -> u32 {
+    let (ck_len, ik_len, len) = (ck.len(), ik.len(), frame.len());
+    let (ck, ik, frame) = (ck.as_ptr(), ik.as_ptr(), frame.as_mut_ptr());
+    // SAFETY: see the top.
+    unsafe {
+        ffi::zuc_frame_write(
+            ck, ck_len, ik, ik_len, count, bearer, direction, bits, frame, len,
+        )
+    }
+}
+
+/// Reads a frame: its tag first; then its body is plain, and `fields` are COUNT, bearer,
+/// direction and the bit length.
+/// [Refuses](crate::Refusal) by Key, Frame, Length, Field, Body, Tag, checked in this
+/// order.
+pub fn zuc_frame_read(ck: &[u8], ik: &[u8], frame: &mut [u8], fields: &mut [u32; 4]) -> u32 {
+    let (ck_len, ik_len, len) = (ck.len(), ik.len(), frame.len());
+    let (ck, ik, frame) = (ck.as_ptr(), ik.as_ptr(), frame.as_mut_ptr());
+    // SAFETY: see the top.
+    unsafe { ffi::zuc_frame_read(ck, ck_len, ik, ik_len, frame, len, fields) }
 }
 
 /// Asks whether `count` may pass on `links[at]`, and if so notes there that it has.

@@ -66,6 +66,8 @@ extern "C" {
     pub fn eia3_tag(count: u32, bearer: u8, direction: u8, key: *const u8, key_len: usize, msg: *const u8, len: usize, bits: usize, tag: &mut [u64; 2]) -> u32;
     pub fn eia3_tag_strict(count: u32, bearer: u8, direction: u8, key: *const u8, key_len: usize, msg: *const u8, len: usize, bits: usize, tag: &mut [u64; 2]) -> u32;
     pub fn zuc256_tag(width: usize, key: *const u8, key_len: usize, iv: *const u8, iv_len: usize, msg: *const u8, len: usize, bits: usize, tag: &mut [u64; 2]) -> u32;
+    pub fn zuc_frame_write(ck: *const u8, ck_len: usize, ik: *const u8, ik_len: usize, count: u32, bearer: u8, direction: u8, bits: u32, frame: *mut u8, len: usize) -> u32;
+    pub fn zuc_frame_read(ck: *const u8, ck_len: usize, ik: *const u8, ik_len: usize, frame: *mut u8, len: usize, fields: &mut [u32; 4]) -> u32;
     pub fn zuc_guard_accept(links: *mut Link, len: usize, at: usize, count: u32) -> u32;
     pub fn zuc_guard_rekey(links: *mut Link, len: usize, at: usize) -> u32;
 }

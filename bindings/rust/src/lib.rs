@@ -4,6 +4,7 @@
 pub mod capi;
 pub mod eea3;
 pub mod eia3;
+pub mod frame;
 pub mod zuc128;
 pub mod zuc256;
 

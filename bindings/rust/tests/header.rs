@@ -29,7 +29,7 @@ fn functions<'a>(text: &'a str, prefix: &str) -> Vec<&'a str> {
 #[test]
 fn functions_agree() {
     let names = functions(HEADER, "uint32_t ");
-    assert_eq!(names.len(), 26);
+    assert_eq!(names.len(), 28);
     assert_eq!(functions(DECLARATIONS, "pub fn "), names);
     assert_eq!(functions(WRAPPERS, "pub fn "), names);
 }
@@ -46,6 +46,10 @@ fn numbers_agree() {
     assert_eq!(defined("ZUC_BAD_STATE"), Refusal::State.number());
     assert_eq!(defined("ZUC_BAD_BITS"), Refusal::Bits.number());
     assert_eq!(defined("ZUC_SPENT"), Refusal::Limit.number());
+    assert_eq!(defined("ZUC_BAD_FRAME"), Refusal::Frame.number());
+    assert_eq!(defined("ZUC_BAD_LENGTH"), Refusal::Length.number());
+    assert_eq!(defined("ZUC_BAD_BODY"), Refusal::Body.number());
+    assert_eq!(defined("ZUC_BAD_TAG"), Refusal::Tag.number());
     assert_eq!(defined("ZUC_BAD_LINK"), Refusal::Link.number());
     assert_eq!(defined("ZUC_BAD_AGE"), Refusal::Age.number());
     assert_eq!(defined("ZUC_BAD_REUSE"), Refusal::Reuse.number());
