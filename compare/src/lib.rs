@@ -13,6 +13,9 @@
 //! Strict forms and EEA3 in one call are held to the crate, and to the request's refusals, by
 //! [`fields`].
 //!
+//! Sealed frames are held by [`frame`] to a model over the crate's EEA3 and EIA3, [`seal`], which
+//! is written from the request; [`frames`] says which are tried.
+//!
 //! The guard is not the crate's: a [`walk::Walk`] is a list of calls on one table, held
 //! to a model of sets; [`walks`] says which are tried.
 
@@ -21,6 +24,8 @@ pub mod check;
 pub mod clock;
 pub mod drawn;
 pub mod fields;
+pub mod frame;
+pub mod frames;
 pub mod hex;
 pub mod hops;
 pub mod input;
@@ -37,6 +42,7 @@ pub mod report;
 pub mod ring;
 pub mod rng;
 pub mod rules;
+pub mod seal;
 pub mod shrink;
 pub mod spent;
 pub mod turn;

@@ -1,5 +1,5 @@
-//! Feeds the crate and the port the same inputs, and the port's guard and a model of sets
-//! the same calls:
+//! Feeds the crate and the port the same inputs, and the port's guard and its frames and
+//! their models the same calls:
 //! `driver [--long MINUTES] [--seed SEED] [--stop]`.
 //! Exits with 1 if anything differs, with 2 if it is called wrongly.
 
@@ -8,14 +8,19 @@ use std::process::exit;
 use std::time::{Duration, SystemTime, UNIX_EPOCH};
 
 use compare::fields::{Fields, FIELDS};
+use compare::frame::Frame;
+use compare::frames::{self, FRAMES};
 use compare::input::Input;
 use compare::plan::{self, SECTIONS};
-use compare::report::Report;
+use compare::report::{Report, Trial};
 use compare::rng::Rng;
 use compare::spent::{self, Spent};
 use compare::turns;
 use compare::walk::Walk;
 use compare::walks::{self, WALKS};
+
+/// Makes inputs and has each tried.
+type Inputs<T> = fn(&mut Rng, &mut dyn FnMut(T));
 
 struct Options {
     /// How long random inputs go on after the quick part.
@@ -28,51 +33,53 @@ struct Options {
 fn main() {
     let options = options();
     println!("zuc 0.4.1 and {}; seed {}", compare::library(), options.seed);
-    // the guard first: it is quick
-    let guarded = guard(&mut Rng::new(options.seed), &options);
-    if options.stop && !guarded {
-        exit(1);
+    let mut same = true;
+    // the quick ones first
+    for part in [guard, sealed, fields, limit, inputs] {
+        same &= part(&mut Rng::new(options.seed), &options);
+        if options.stop && !same {
+            break;
+        }
     }
-    let strict = fields(&mut Rng::new(options.seed), &options);
-    if options.stop && !strict {
-        exit(1);
-    }
-    let limited = limit(&mut Rng::new(options.seed), &options);
-    if options.stop && !limited {
-        exit(1);
-    }
-    let mut rng = Rng::new(options.seed);
-    let mut report = Report::<Input>::new();
-    for (name, inputs) in SECTIONS {
+    exit(i32::from(!same));
+}
+
+/// The sections of a list; after one with a difference no other, if that was asked.
+fn sections<T: Trial>(
+    report: &mut Report<T>,
+    list: &[(&'static str, Inputs<T>)],
+    rng: &mut Rng,
+    options: &Options,
+) {
+    for (name, inputs) in list {
         report.section(name);
-        inputs(&mut rng, &mut |input| report.try_input(input));
+        inputs(rng, &mut |input| report.try_input(input));
         if options.stop && report.differences() > 0 {
             break;
         }
     }
+}
+
+/// All that the crate has; answers whether all was the same.
+fn inputs(rng: &mut Rng, options: &Options) -> bool {
+    let mut report = Report::<Input>::new();
+    sections(&mut report, &SECTIONS, rng, options);
     if !options.long.is_zero() {
         report.section("random, to 1 MiB, for as long as was asked");
         let end = report.elapsed() + options.long;
         while report.elapsed() < end {
             let log = rng.pick(&[6, 11, 11, 16, 20]);
-            report.try_input(plan::random(&mut rng, log));
-            report.try_input(turns::random(&mut rng, log.min(14)));
+            report.try_input(plan::random(rng, log));
+            report.try_input(turns::random(rng, log.min(14)));
         }
     }
-    let same = report.end(options.seed);
-    exit(i32::from(!(guarded && strict && limited && same)));
+    report.end(options.seed)
 }
 
 /// The guard, by walks over tables of links; answers whether all was the same.
 fn guard(rng: &mut Rng, options: &Options) -> bool {
     let mut report = Report::<Walk>::new();
-    for (name, inputs) in WALKS {
-        report.section(name);
-        inputs(rng, &mut |walk| report.try_input(walk));
-        if options.stop && report.differences() > 0 {
-            break;
-        }
-    }
+    sections(&mut report, &WALKS, rng, options);
     if !options.long.is_zero() {
         report.section("guard: random walks, a tenth of the time asked");
         let end = report.elapsed() + options.long / 10;
@@ -86,11 +93,20 @@ fn guard(rng: &mut Rng, options: &Options) -> bool {
 /// Strict forms, and EEA3 in one call; answers whether all was the same.
 fn fields(rng: &mut Rng, options: &Options) -> bool {
     let mut report = Report::<Fields>::new();
-    for (name, inputs) in FIELDS {
-        report.section(name);
-        inputs(rng, &mut |fields| report.try_input(fields));
-        if options.stop && report.differences() > 0 {
-            break;
+    sections(&mut report, &FIELDS, rng, options);
+    report.end(options.seed)
+}
+
+/// Frames, written and read; answers whether all was the same.
+fn sealed(rng: &mut Rng, options: &Options) -> bool {
+    let mut report = Report::<Frame>::new();
+    sections(&mut report, &FRAMES, rng, options);
+    if !options.long.is_zero() {
+        report.section("frames: random, a tenth of the time asked");
+        let end = report.elapsed() + options.long / 10;
+        while report.elapsed() < end {
+            let log = rng.pick(&[6, 11, 16]);
+            report.try_input(frames::random(rng, log));
         }
     }
     report.end(options.seed)
