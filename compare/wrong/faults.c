@@ -37,6 +37,8 @@ RIGHT(eea3_mask_crate);
 RIGHT(eea3_mask_clean);
 RIGHT(eea3_mask_crate_strict);
 RIGHT(eea3_mask_clean_strict);
+RIGHT(zuc_frame_write);
+RIGHT(zuc_frame_read);
 RIGHT(zuc_guard_accept);
 RIGHT(zuc_guard_rekey);
 
@@ -685,6 +687,202 @@ uint32_t eea3_mask_clean_strict(uint32_t count, uint8_t bearer, uint8_t directio
     /* fault 86: a one-call that is refused by 8 has cleared the first byte */
     if (FAULT == 86 && refusal == ZUC_BAD_FIELD && len > 0 && len < 1000)
         buf[0] = 0;
+    return refusal;
+}
+#endif
+
+/* A number of four bytes in a frame. */
+static inline uint32_t number_at(const uint8_t *at)
+{
+    return (uint32_t)at[0] << 24 | (uint32_t)at[1] << 16 | (uint32_t)at[2] << 8 | at[3];
+}
+
+static inline void put_number(uint8_t *at, uint32_t number)
+{
+    for (int i = 0; i < 4; i++)
+        at[i] = (uint8_t)(number >> (24 - 8 * i));
+}
+
+/* Whether a body of a frame is as long as its bits, and the bits past them in its last byte. */
+static inline int long_enough(uint32_t bits, size_t len)
+{
+    return len >= 17 && ((uint64_t)bits + 7) / 8 == len - 17;
+}
+
+static inline uint8_t past(uint32_t bits)
+{
+    return bits % 8 == 0 ? 0 : 0xff >> bits % 8;
+}
+
+#if FAULT >= 87 && FAULT <= 96
+uint32_t zuc_frame_write(const uint8_t *ck, size_t ck_len, const uint8_t *ik, size_t ik_len,
+                         uint32_t count, uint8_t bearer, uint8_t direction, uint32_t bits,
+                         uint8_t *frame, size_t len)
+{
+    uint8_t version = len > 0 ? frame[0] : 0;
+    uint64_t tag[2];
+    size_t drawn;
+
+    /* fault 87: the body is masked under the integrity key, and tagged under the other */
+    if (FAULT == 87)
+        return right_zuc_frame_write(ik, ik_len, ck, ck_len, count, bearer, direction, bits, frame, len);
+    uint32_t refusal =
+        right_zuc_frame_write(ck, ck_len, ik, ik_len, count, bearer, direction, bits, frame, len);
+
+    /* fault 88: the tag is of the plain body */
+    if (FAULT == 88 && refusal == 0) {
+        eea3_mask_clean(count, bearer, direction, ck, ck_len, frame + 13, len - 17, bits, &drawn);
+        eia3_tag(count, bearer, direction, ik, ik_len, frame + 13, len - 17, bits, tag);
+        eea3_mask_clean(count, bearer, direction, ck, ck_len, frame + 13, len - 17, bits, &drawn);
+        put_number(frame + len - 4, (uint32_t)tag[0]);
+    }
+
+    /* fault 89: the length field is n - 2 */
+    if (FAULT == 89 && refusal == 0) {
+        frame[1] = (uint8_t)((len - 2) >> 8);
+        frame[2] = (uint8_t)(len - 2);
+    }
+
+    /* fault 90: the fields are little-endian */
+    if (FAULT == 90 && refusal == 0) {
+        put_number(frame + 3, __builtin_bswap32(count));
+        put_number(frame + 9, __builtin_bswap32(bits));
+    }
+
+    /* fault 91: a writer clears a bit past L, and goes on */
+    if (FAULT == 91 && refusal == ZUC_BAD_BODY && long_enough(bits, len)) {
+        frame[len - 5] &= (uint8_t)~past(bits);
+        return right_zuc_frame_write(ck, ck_len, ik, ik_len, count, bearer, direction, bits, frame, len);
+    }
+
+    /* fault 92: a writer checks 9 before 8 */
+    if (FAULT == 92 && refusal == ZUC_BAD_FIELD && !long_enough(bits, len))
+        return ZUC_BAD_BODY;
+
+    /* fault 93: a writer leaves the version byte */
+    if (FAULT == 93 && refusal == 0)
+        frame[0] = version;
+
+    /* fault 94: a write is refused by 9 after it masked */
+    if (FAULT == 94 && refusal == ZUC_BAD_BODY)
+        eea3_mask_clean(count, bearer, direction, ck, ck_len, frame + 13, len - 17, 8 * (len - 17), &drawn);
+
+    /* fault 95: of more than 65538 bytes the first ones are written */
+    if (FAULT == 95 && refusal == ZUC_BAD_LENGTH)
+        return right_zuc_frame_write(ck, ck_len, ik, ik_len, count, bearer, direction, 8 * 65521, frame, 65538);
+
+    /* fault 96: a writer checks 6 before 2 */
+    if (FAULT == 96 && refusal == ZUC_BAD_KEY && len < 17)
+        return ZUC_BAD_FRAME;
+    return refusal;
+}
+#endif
+
+/* What a frame's tag should be, of as many bits as it says. */
+static inline uint32_t tag_due(const uint8_t *ik, const uint8_t *frame, size_t len)
+{
+    uint64_t tag[2];
+    eia3_tag(number_at(frame + 3), frame[7], frame[8], ik, 16, frame + 13, len - 17, number_at(frame + 9), tag);
+    return (uint32_t)tag[0];
+}
+
+static inline void unmask(const uint8_t *ck, uint8_t *frame, size_t len)
+{
+    size_t drawn;
+    eea3_mask_clean(number_at(frame + 3), frame[7], frame[8], ck, 16, frame + 13, len - 17, number_at(frame + 9),
+                    &drawn);
+}
+
+static inline void tell(const uint8_t *frame, uint32_t fields[4])
+{
+    fields[0] = number_at(frame + 3);
+    fields[1] = frame[7];
+    fields[2] = frame[8];
+    fields[3] = number_at(frame + 9);
+}
+
+/* Reads with another byte at a place, and puts the byte back. */
+static inline uint32_t read_with(const uint8_t *ck, const uint8_t *ik, uint8_t *frame, size_t len,
+                                 uint32_t fields[4], size_t place, uint8_t byte)
+{
+    uint8_t before = frame[place];
+    frame[place] = byte;
+    uint32_t refusal = right_zuc_frame_read(ck, 16, ik, 16, frame, len, fields);
+    if (refusal != 0 || place < 13 || place >= len - 4)
+        frame[place] = before;
+    return refusal;
+}
+
+#if FAULT >= 97 && FAULT <= 109
+uint32_t zuc_frame_read(const uint8_t *ck, size_t ck_len, const uint8_t *ik, size_t ik_len,
+                        uint8_t *frame, size_t len, uint32_t fields[4])
+{
+    uint32_t refusal = right_zuc_frame_read(ck, ck_len, ik, ik_len, frame, len, fields);
+    uint32_t bits = len < 17 ? 0 : number_at(frame + 9);
+    size_t says = len < 17 ? 0 : (size_t)(frame[1] << 8 | frame[2]);
+
+    /* fault 97: a reader takes a body with a bit past L */
+    if (FAULT == 97 && refusal == ZUC_BAD_BODY && long_enough(bits, len))
+        return read_with(ck, ik, frame, len, fields, len - 5, frame[len - 5] & (uint8_t)~past(bits));
+
+    /* fault 98: a reader checks 9 before 8 */
+    if (FAULT == 98 && refusal == ZUC_BAD_FIELD && !long_enough(bits, len))
+        return ZUC_BAD_BODY;
+
+    /* fault 99: a reader clears the tag */
+    if (FAULT == 99 && refusal == 0)
+        put_number(frame + len - 4, 0);
+
+    /* fault 100: a body is unmasked although the tag is wrong */
+    if (FAULT == 100 && refusal == ZUC_BAD_TAG)
+        unmask(ck, frame, len);
+
+    /* fault 101: the fields are told although the tag is wrong */
+    if (FAULT == 101 && refusal == ZUC_BAD_TAG)
+        tell(frame, fields);
+
+    /* fault 102: 10 is checked before 9 */
+    if (FAULT == 102 && refusal == ZUC_BAD_BODY && bits <= 8 * (len - 17)
+        && tag_due(ik, frame, len) != number_at(frame + len - 4))
+        return ZUC_BAD_TAG;
+
+    /* fault 103: a version of 0 is taken for 1 */
+    if (FAULT == 103 && refusal == ZUC_BAD_FRAME && len >= 17 && frame[0] == 0)
+        return read_with(ck, ik, frame, len, fields, 0, 1);
+
+    /* fault 104: the length is compared modulo 2^16 */
+    if (FAULT == 104 && refusal == ZUC_BAD_LENGTH && says == (uint16_t)(len - 3) && fits(frame[7], frame[8])
+        && long_enough(bits, len) && (frame[len - 5] & past(bits)) == 0
+        && tag_due(ik, frame, len) == number_at(frame + len - 4)) {
+        unmask(ck, frame, len);
+        tell(frame, fields);
+        return 0;
+    }
+
+    /* fault 105: the last byte of the tag is not looked at */
+    if (FAULT == 105 && refusal == ZUC_BAD_TAG)
+        return read_with(ck, ik, frame, len, fields, len - 1, (uint8_t)tag_due(ik, frame, len));
+
+    /* fault 106: 7 is checked before 6 */
+    if (FAULT == 106 && refusal == ZUC_BAD_FRAME && len >= 17 && says != len - 3)
+        return ZUC_BAD_LENGTH;
+
+    /* fault 107: a reader trims the bearer, and goes on */
+    if (FAULT == 107 && refusal == ZUC_BAD_FIELD)
+        return read_with(ck, ik, frame, len, fields, 7, frame[7] % 32);
+
+    /* fault 108: a frame of no bits is refused by 9 */
+    if (FAULT == 108 && refusal == 0 && bits == 0) {
+        memset(fields, 0, 16);
+        return ZUC_BAD_BODY;
+    }
+
+    /* fault 109: the longest frame is refused by 7 */
+    if (FAULT == 109 && refusal == 0 && len == 65538) {
+        unmask(ck, frame, len);
+        memset(fields, 0, 16);
+        return ZUC_BAD_LENGTH;
+    }
     return refusal;
 }
 #endif
