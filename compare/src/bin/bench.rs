@@ -15,10 +15,14 @@ use compare::library;
 use compare::plot::{plot, Curve};
 use compare::rng::Rng;
 use yegetmur::capi::{self, STATE_WORDS};
+use yegetmur::frame::{self, Fields, BESIDE, HEAD};
 use yegetmur::{Guard, Link};
 
 /// Bytes of a message or a buffer.
 const SIZES: [usize; 6] = [16, 64, 256, 1 << 10, 1 << 16, 1 << 20];
+
+/// Bytes of a frame: the last is the longest.
+const FRAMES: [usize; 3] = [64, 1024, frame::LONGEST];
 
 /// How long one measurement lasts at least: far above what the clock can tell.
 const LEAST: Duration = Duration::from_micros(200);
@@ -38,6 +42,7 @@ struct Buffers {
 }
 
 const KEY: [u8; 16] = [0x3d; 16];
+const OTHER_KEY: [u8; 16] = [0x84; 16];
 const LONG_KEY: [u8; 32] = [0x3d; 32];
 const LONG_IV: [u8; 23] = [0x84; 23];
 
@@ -88,6 +93,7 @@ fn main() {
     println!("{}", machine());
     let mut buffers = Buffers { bytes: Rng::new(1).bytes(1 << 20), words: vec![0; 1 << 18] };
     let curves = all_sizes(options.rounds, &mut buffers);
+    frames(options.rounds, &mut buffers);
     one_call(options.rounds, &mut buffers);
     single_draw(options.rounds, &mut buffers);
     guard_call(options.rounds, &mut buffers);
@@ -138,6 +144,40 @@ fn all_sizes(rounds: usize, buffers: &mut Buffers) -> Vec<Curve> {
 fn row(name: &str, size: usize, crate_ns: f64, port_ns: f64) {
     let ratio = port_ns / crate_ns;
     println!("{name:<24} {size:>8} {crate_ns:>11.3} {port_ns:>11.3} {ratio:>7.3}");
+}
+
+/// Frames written and read, beside the crate's EEA3 and EIA3 of the same body. Before each run
+/// both sides have the body put where they work, since a frame that was read is plain.
+fn frames(rounds: usize, buffers: &mut Buffers) {
+    println!("{:<24} {:>8} {:>11} {:>11} {:>7}", "", "bytes", "crate ns", "port ns", "ratio");
+    for size in FRAMES {
+        let fields = Fields { count: 7, bearer: 5, direction: 1, bits: 8 * (size - BESIDE) as u32 };
+        let mut sealed = buffers.bytes[..size].to_vec();
+        frame::seal(&KEY, &OTHER_KEY, fields, &mut sealed).expect("fields and lengths fit");
+        let (body, plain) = (HEAD..size - 4, buffers.bytes[..size].to_vec());
+
+        let masked_and_tagged: Work = &mut |buffers, size| {
+            buffers.bytes[..size].copy_from_slice(&plain);
+            on_crate::eea3(buffers, size - BESIDE);
+            on_crate::eia3(buffers, size - BESIDE);
+        };
+        let written: Work = &mut |buffers, size| {
+            let frame = &mut buffers.bytes[..size];
+            frame.copy_from_slice(&plain);
+            _ = black_box(frame::seal(&KEY, &OTHER_KEY, fields, frame));
+        };
+        let (crate_ns, port_ns) = least(rounds, buffers, size, masked_and_tagged, written);
+        row("frame, written", size, crate_ns, port_ns);
+
+        let read: Work = &mut |buffers, size| {
+            let frame = &mut buffers.bytes[..size];
+            frame.copy_from_slice(&sealed);
+            _ = black_box(frame::open(&KEY, &OTHER_KEY, frame));
+        };
+        let (crate_ns, port_ns) = least(rounds, buffers, size, masked_and_tagged, read);
+        row("frame, read", size, crate_ns, port_ns);
+        assert_eq!(buffers.bytes[body.clone()], plain[body], "a frame was not read");
+    }
 }
 
 /// EEA3 of 64 bytes through C: a start and a mask of it, and in one call; no crate.
