@@ -1,16 +1,18 @@
 /*
- * calls FUNCTION accepted|refused [ADDRESS LENGTH].. calls a function of include/zuc.h with
- * all that is secret marked as undefined, for memcheck to say where a branch or an address
- * depends on it. tests/timing/run runs this and reads what memcheck says.
+ * calls FUNCTION accepted|refused|wrong0..3 [ADDRESS LENGTH].. calls a function of
+ * include/zuc.h with all that is secret marked as undefined, for memcheck to say where a branch
+ * or an address depends on it. tests/timing/run runs this and reads what memcheck says; this
+ * prints how many calls were made.
  *
  * Secret are keys, messages and buffers, and of a lent state the places, R1, R2, the key
  * pair, the tag and the waiting bytes. Public are all lengths and widths, the count of the
  * waiting bytes, the start index, the count of the words drawn, IV, COUNT, BEARER and
- * DIRECTION, and all of a guard's.
+ * DIRECTION, and all of a guard's. Of a frame the plain body is secret; once it is sealed it
+ * goes openly.
  *
  * `accepted` lends states as starts give them. `refused` lends the same with one cell
  * spoilt, each in its turn, so that each call ends by refusal 4; and the cells alone are
- * secret.
+ * secret. `wrong0` to `wrong3` lend frames of which that byte of the tag is wrong.
  *
  * The boxes, at the addresses given, are marked too: memcheck takes what is read at a secret
  * place of a known table to be known, and so R1 and R2 would come out known.
@@ -19,6 +21,7 @@
  */
 #include "zuc.h"
 
+#include <stdio.h>
 #include <stdlib.h>
 #include <string.h>
 #include <valgrind/memcheck.h>
@@ -26,9 +29,10 @@
 /* Cells to spoil, and the two ways: 0, and 2147483648 or more. */
 enum { NONE = -1, SPOILT = 32 };
 
-static int spoilt = NONE, wrong;
+static int spoilt = NONE, wrong_byte = NONE, wrong;
+static unsigned calls;
 
-static uint8_t key[32], iv[23], data[600];
+static uint8_t key[32], iv[23], data[600], frame[13 + sizeof data + 4];
 static uint32_t state[ZUC_STATE_WORDS], out[150], word;
 static uint64_t tag_state[ZUC_TAG_WORDS], tag[2];
 static size_t count;
@@ -62,13 +66,19 @@ static void scatter(uint64_t *numbers, size_t bits)
         numbers[i / 64] |= (uint64_t)(random_word() >> 31) << (63 - i % 64);
 }
 
-/* A call has answered; that is looked at once it is known. */
-static void answered(uint32_t number)
+/* A call has answered, and should so; that is looked at once it is known. */
+static void answered_by(uint32_t number, uint32_t expected)
 {
     volatile uint32_t known = number;
 
     (void)VALGRIND_MAKE_MEM_DEFINED(&known, sizeof known);
-    wrong |= known != (spoilt == NONE ? 0 : ZUC_BAD_STATE);
+    wrong |= known != expected;
+    calls++;
+}
+
+static void answered(uint32_t number)
+{
+    answered_by(number, spoilt == NONE ? 0 : ZUC_BAD_STATE);
 }
 
 /* The same of a call that leaves R1 and R2 in 8 bytes: they must be secret as before. */
@@ -331,6 +341,60 @@ static void call_zuc256_tag(void)
             answered(zuc256_tag(width, key, 32, iv, 23, data, sizeof data, bits, tag));
 }
 
+/* Writes a frame around a body of which the first bits are secret; those past them are 0. */
+static uint32_t seal(size_t bytes, size_t bits)
+{
+    uint8_t in_last = (uint8_t)(0xff00 >> bits % 8);
+    size_t i;
+
+    for (i = 0; i < bytes; i++)
+        frame[13 + i] = (uint8_t)random_word();
+    secret(frame + 13, bits / 8);
+    if (bits % 8 != 0) {
+        frame[13 + bytes - 1] &= in_last;
+        (void)VALGRIND_SET_VBITS(&frame[13 + bytes - 1], &in_last, 1);
+    }
+    return zuc_frame_write(key, 16, key + 16, 16, 7, 5, 1, (uint32_t)bits, frame, bytes + 17);
+}
+
+/* A received frame: all of it is known, and one byte of its tag may be wrong. */
+static void read_sealed(size_t bytes, size_t bits)
+{
+    uint32_t fields[4];
+
+    (void)seal(bytes, bits);
+    (void)VALGRIND_MAKE_MEM_DEFINED(frame, bytes + 17);
+    if (wrong_byte != NONE)
+        frame[13 + bytes + (size_t)wrong_byte] ^= 0x10;
+    answered_by(zuc_frame_read(key, 16, key + 16, 16, frame, bytes + 17, fields),
+                wrong_byte == NONE ? 0 : ZUC_BAD_TAG);
+}
+
+static void write_sealed(size_t bytes, size_t bits)
+{
+    answered(seal(bytes, bits));
+}
+
+static void frames(void (*call)(size_t, size_t))
+{
+    size_t bytes, less;
+
+    call(0, 0);
+    for (bytes = 1; bytes <= sizeof data; bytes += 1 + bytes / 8)
+        for (less = 0; less < 8; less += 3)
+            call(bytes, 8 * bytes - less);
+}
+
+static void call_zuc_frame_write(void)
+{
+    frames(write_sealed);
+}
+
+static void call_zuc_frame_read(void)
+{
+    frames(read_sealed);
+}
+
 /* Nothing that a guard is lent is secret: COUNT goes openly, and a link tells of counts. */
 static void call_zuc_guard_accept(void)
 {
@@ -371,8 +435,8 @@ static const struct {
     ROW(eea3_mask_clean), ROW(eea3_mask_crate_strict), ROW(eea3_mask_clean_strict),
     ROW(zuc128_tag_start), ROW(eia3_tag_start), ROW(eia3_tag_start_strict), ROW(zuc256_tag_start),
     ROW(zuc128_tag_update), ROW(zuc256_tag_update), ROW(zuc128_tag_finish), ROW(zuc256_tag_finish),
-    ROW(zuc128_tag), ROW(eia3_tag), ROW(eia3_tag_strict), ROW(zuc256_tag), ROW(zuc_guard_accept),
-    ROW(zuc_guard_rekey), ROW(a_branch), ROW(a_look_up),
+    ROW(zuc128_tag), ROW(eia3_tag), ROW(eia3_tag_strict), ROW(zuc256_tag), ROW(zuc_frame_write),
+    ROW(zuc_frame_read), ROW(zuc_guard_accept), ROW(zuc_guard_rekey), ROW(a_branch), ROW(a_look_up),
 };
 
 int main(int argc, char **argv)
@@ -389,10 +453,13 @@ int main(int argc, char **argv)
             rows[i].call();
         return wrong;
     }
+    if (strncmp(argv[2], "wrong", 5) == 0)
+        wrong_byte = argv[2][5] - '0';
     secret(key, sizeof key);
     secret(data, sizeof data);
     for (arg = 3; arg + 1 < argc; arg += 2)
         secret((void *)(uintptr_t)strtoull(argv[arg], NULL, 0), strtoull(argv[arg + 1], NULL, 0));
     rows[i].call();
+    printf("%u\n", calls);
     return wrong;
 }
