@@ -281,16 +281,22 @@ static void lent_wrongly(void)
     CHECK(kept_past(0) && fields_are(fields, 0, 0, 0, 0));
 }
 
-/* More bytes than a frame has: no length field can say so many. */
+/* More bytes than a frame has, and right but for that: no length field can say so many. */
 static void too_long(void)
 {
+    uint64_t tag[2];
     size_t n;
 
     for (n = LONGEST + 1; n <= LONGEST + 20; n++) {
-        fill_body(0, 0);
+        fill_body(n - 17, 0);
         frame[0] = 1;
         frame[1] = (uint8_t)((n - 3) >> 8);
         frame[2] = (uint8_t)(n - 3);
+        frame[7] = frame[8] = 1;
+        put_number(frame + 9, (uint32_t)(8 * (n - 17)));
+        CHECK(eia3_tag(number_at(frame + 3), 1, 1, ik, 16, frame + 13, n - 17, 8 * (n - 17), tag)
+              == 0);
+        put_number(frame + n - 4, (uint32_t)tag[0]);
         refused_read(16, 16, n, ZUC_BAD_LENGTH);
         frame[0] = 0;
         refused_read(16, 16, n, ZUC_BAD_FRAME);
