@@ -4,6 +4,8 @@ use capi::eea3::eea3_mask_clean;
 use capi::eea3::eea3_mask_clean_strict;
 use capi::eea3::eea3_mask_crate;
 use capi::eea3::eea3_mask_crate_strict;
+use capi::frames::zuc_frame_read;
+use capi::frames::zuc_frame_write;
 use capi::generators::eea3_start;
 use capi::generators::eea3_start_strict;
 use capi::generators::zuc_draw;
@@ -254,6 +256,34 @@ fn once(kind: usize, n: [u64; 4], a: &[u8], b: &[u8], c: &[u8], out: &mut [u8]) 
     told::tag(number, tag, out)
 }
 
+// A frame written: the number, and the frame.
+fn wrote(n: [u64; 4], ck: &[u8], ik: &[u8], frame: &mut [u8], out: &mut [u8]) -> usize {
+    let count = (n[0] % 0x1_0000_0000) as u32;
+    let bearer = (n[1] % 256) as u8;
+    let direction = (n[2] % 256) as u8;
+    let bits = (n[3] % 0x1_0000_0000) as u32;
+    let number = zuc_frame_write(ck, ik, count, bearer, direction, bits, frame);
+    let end = told::number(number as u64, out, 0);
+    told::bytes(frame, out, end)
+}
+
+// A frame read: the number, the four fields and the frame.
+fn opened(ck: &[u8], ik: &[u8], frame: &mut [u8], out: &mut [u8]) -> usize {
+    let mut fields = [7u32; 4];
+    let number = zuc_frame_read(ck, ik, frame, &mut fields);
+    told::opened(number, fields, frame, out)
+}
+
+// Kinds 34 and 35, frames, written or read where they lie.
+fn framed(kind: usize, n: [u64; 4], ck: &[u8], ik: &[u8], bytes: &[u8], out: &mut [u8]) -> usize {
+    let mut room = [0u8; 1024];
+    let len = least(put(bytes, &mut room, 0), 1024);
+    if kind == 34 {
+        return wrote(n, ck, ik, &mut room[0..len], out);
+    }
+    opened(ck, ik, &mut room[0..len], out)
+}
+
 // Kinds 22 and 23, a word of an array set.
 fn set(kind: usize, at: usize, word: u64, g: &mut Generator, t: &mut TagArray) -> bool {
     if kind == 22 {
@@ -327,7 +357,7 @@ fn made(
             masked(kind, n[0] as usize, a, g, &mut buf, out)
         }
         11..=16 => fed(kind, n, a, t, out),
-        17..=19 => once(kind, n, a, b, c, out),
+        17..=19 | 29 => once(kind, n, a, b, c, out),
         20 => told::words(g, out, 0),
         21 => told::longs(t, out, 0),
         24 => guarded(n, out),
@@ -336,11 +366,11 @@ fn made(
             told::done(true, out)
         }
         27..=28 => told::number(started_strictly(kind, n, a, g, t) as u64, out, 0),
-        29 => once(kind, n, a, b, c, out),
         30..=33 => {
             let mut buf = [0u8; 1024];
             masked_once(kind, n, a, b, &mut buf, out)
         }
+        34..=35 => framed(kind, n, a, b, c, out),
         _ => told::done(set(kind, n[0] as usize, n[1], g, t), out),
     }
 }
@@ -410,7 +440,9 @@ eia3_tag_strict count W bearer N direction N key B msg B bits N
 eea3_mask_crate count W bearer N direction N key B buf B bits N
 eea3_mask_clean count W bearer N direction N key B buf B bits N
 eea3_mask_crate_strict count W bearer N direction N key B buf B bits N
-eea3_mask_clean_strict count W bearer N direction N key B buf B bits N",
+eea3_mask_clean_strict count W bearer N direction N key B buf B bits N
+zuc_frame_write ck B ik B count W bearer N direction N bits N frame B
+zuc_frame_read ck B ik B frame B",
         g,
         t,
         out,

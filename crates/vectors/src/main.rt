@@ -198,7 +198,7 @@ fn run(script: &[u8]) -> Tally {
 }
 
 fn main() {
-    let mut script = [0u8; 262144];
+    let mut script = [0u8; 524288];
     let n = io::read_full(STDIN_FILENO, &mut script);
     vectors_parts::table::foot(run(front(&script, n)));
 }

@@ -65,6 +65,13 @@ pub fn drawn(n: u32, drawn: &[u32], out: &mut [u8]) -> usize {
     words(drawn, out, end)
 }
 
+// A frame read: the number, the four fields and the frame.
+pub fn opened(n: u32, fields: [u32; 4], frame: &[u8], out: &mut [u8]) -> usize {
+    let end = number(n as u64, out, 0);
+    let end = words(&fields, out, end);
+    bytes(frame, out, end)
+}
+
 // That something was done.
 pub fn done(was: bool, out: &mut [u8]) -> usize {
     if was {
