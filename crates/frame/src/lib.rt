@@ -12,6 +12,7 @@ ghost use Rattle.standard.specs.Frame.{bodyFits, bodyIn, fieldsIn, fourAt, fram
 ghost use Rattle.standard.specs.Refusals.{accepted, tested};
 use mac::Once128;
 use words::byte_of;
+use words::copy;
 use words::fields_fit;
 use words::keep_high;
 use words::word_of;
@@ -160,18 +161,6 @@ fn mask_body(ck: &[u8], f: FrameFields, body: &mut [u8])
 {
     let l = f.bits as usize;
     mask::eea3::mask_clean_strict(f.count, f.bearer, f.direction, ck, body, l);
-}
-
-// A part of the frame, byte by byte.
-fn copy(part: &mut [u8], from: &[u8])
-    requires { ⌜ length (now part) ≡ length (now from) ⌝ }
-    ensures { λ _. ⌜ now (part .exit) ≡ now (from .entry) ⌝ }
-{
-    let mut i: usize = 0;
-    while i < part.len() {
-        part[i] = from[i];
-        i += 1;
-    }
 }
 
 // The bytes before a body of n bytes.

@@ -1,6 +1,7 @@
-// Helpers on numbers that the language lacks: rotation, bytes of a word, the high bits of a byte, a bit length held against a byte count, a bearer and a direction
-// against their fields, words against what is left.
+// Helpers that the language lacks: rotation, bytes of a word, the high bits of a byte, a slice copied, a bit length held against a byte count,
+// a bearer and a direction against their fields, words against what is left.
 ghost use lib.Dec.{leb};
+ghost use lib.ListN.{length};
 ghost use mathlib.Core.Path.{_≡_};
 ghost use Prim.Native.Nat.{_+_, _*_, _<_, _≤_};
 ghost use Rattle.standard.specs.Bits.{byteOf};
@@ -39,6 +40,16 @@ pub fn keep_high(byte: u8, k: usize) -> u8
 {
     let low = 8 - k;
     (((byte as u32) >> low) << low) as u8
+}
+
+// A slice copied into another of its length.
+pub fn copy(to: &mut [u8], from: &[u8])
+    requires { ⌜ length (now to) ≡ length (now from) ⌝ }
+    ensures { λ _. ⌜ now (to .exit) ≡ now (from .entry) ⌝ }
+{
+    for i in 0..from.len() {
+        to[i] = from[i];
+    }
 }
 
 // Whether a bit length is at most 8 times a number of bytes. Nothing is multiplied, so nothing overflows.

@@ -6,6 +6,7 @@ ghost use Rattle.zuc_loading.specs.InnerRows.{Inside, besides, joined, s
 ghost use Rattle.standard.specs.Loading.{load₂₅₆};
 ghost use Rattle.standard.specs.Notation.{_‖₇_, _‖₈_};
 ghost use Rattle.zuc.specs.Reading.{loadedOf};
+use words::copy;
 use zuc::Loaded;
 
 // Where the key starts, and the IV behind it, in one array.
@@ -115,21 +116,12 @@ fn load_from(d: [u8; 16], x: [u8; 55]) -> Loaded
     Loaded { s, r1: 0, r2: 0 }
 }
 
-// A slice copied into as many places of an array, so that the load reads places that are known to be there.
-fn copy(to: &mut [u8], from: &[u8])
-    requires { ⌜ length (now to) ≡ length (now from) ⌝ }
-    ensures { λ _. ⌜ now (to .exit) ≡ now (from .entry) ⌝ }
-{
-    for i in 0..from.len() {
-        to[i] = from[i];
-    }
-}
-
 // The loaded cells, with a row of constants.
 pub fn load(d: [u8; 16], key: &[u8], iv: &[u8]) -> Loaded
     requires { ⌜ length (now key) ≡ 32 ⌝ ∗ ⌜ length (now iv) ≡ 23 ⌝ }
     ensures { λ r. ⌜ loadedOf r ≡ load₂₅₆ d (now (key .entry)) (now (iv .entry)) ⌝ }
 {
+    // an array, so that the load reads places that are known to be there
     let mut x = [0u8; 55];
     copy(&mut x[..32], key);
     copy(&mut x[32..], iv);
