@@ -32,7 +32,7 @@ fn open(ck: &[u8], ik: &[u8], frame: &mut [u8]) -> bool {
     }
     let end = frame.len() - 4;
     if !io::write_all(STDOUT_FILENO, &frame[13..end]) {
-        os::fail(b"standard output");
+        os::fail(b"failed: standard output");
         return false;
     }
     tell(fields);
@@ -45,7 +45,7 @@ fn open_next(ck: &[u8], ik: &[u8], frame: &mut [u8]) -> bool
 {
     let read = read_frame(STDIN_FILENO, frame);
     if read.failed {
-        os::fail(b"standard input");
+        os::fail(b"failed: standard input");
         return false;
     }
     let n = read.bytes;

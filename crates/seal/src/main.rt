@@ -1,18 +1,20 @@
 // Seals a body (request 2026-01): seal CK IK COUNT BEARER DIRECTION [BITS] < body > frame
 // CK and IK name files of 16 bytes; the numbers are decimal; without BITS all bits of the body count.
+use capi_answers::BAD_KEY;
 use capi_answers::frame_number;
 use frame::FrameFields;
 use frame_files::decimal::Number;
 use frame_files::decimal::at_most;
 use frame_files::decimal::is_written;
 use frame_files::decimal::number_in;
+use frame_files::files::keys_fit;
 use frame_files::files::read_body;
 use frame_files::files::read_key;
 use frame_files::told;
 use libc::STDIN_FILENO;
 use libc::STDOUT_FILENO;
 
-// What the words of the command ask for: fields, or something that is no use of it.
+// What the words of the command ask for: fields, or nothing that can be done.
 enum Asked {
     Fields(FrameFields),
     Nothing,
@@ -59,7 +61,7 @@ fn seal(ck: &[u8], ik: &[u8], f: FrameFields, frame: &mut [u8]) {
         return;
     }
     if !io::write_all(STDOUT_FILENO, frame) {
-        os::fail(b"standard output");
+        os::fail(b"failed: standard output");
     }
 }
 
@@ -67,7 +69,7 @@ fn seal_body(ck: &[u8], ik: &[u8], asked: FrameFields) {
     let mut frame = [0u8; 65539];
     let body = read_body(STDIN_FILENO, &mut frame);
     if body.failed {
-        os::fail(b"standard input");
+        os::fail(b"failed: standard input");
         return;
     }
     let n = body.bytes;
@@ -77,6 +79,10 @@ fn seal_body(ck: &[u8], ik: &[u8], asked: FrameFields) {
     }
     let end = n + 17;
     seal(ck, ik, f, &mut frame[0..end]);
+}
+
+fn usage() {
+    told::text(b"usage: seal CK IK COUNT BEARER DIRECTION [BITS] < body > frame\n");
 }
 
 fn main() {
@@ -93,9 +99,9 @@ fn main() {
     let mut ik = [0u8; 17];
     let n = read_key(1, &mut ck);
     let m = read_key(2, &mut ik);
+    if !keys_fit(&ck[..n], &ik[..m]) {
+        told::refused(BAD_KEY);
+        return;
+    }
     seal_body(&ck[..n], &ik[..m], f);
-}
-
-fn usage() {
-    told::text(b"usage: seal CK IK COUNT BEARER DIRECTION [BITS] < body > frame\n");
 }
