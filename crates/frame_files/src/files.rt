@@ -62,6 +62,8 @@ pub fn read_key(i: usize, key: &mut [u8; 17]) -> usize
     let read = fill(fd, key);
     if read.failed {
         os::fail(&path[..n]);
+        libc::close(fd);
+        return 0;
     }
     libc::close(fd);
     read.bytes
