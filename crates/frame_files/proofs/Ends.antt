@@ -1,5 +1,4 @@
 -- Where a frame ends is in its first bytes, whatever follows; and a frame that a reader accepts ends there: by its test of the length field.
-use mathlib.Core.Bool.{_&&_}
 use mathlib.Core.List.{List, _++_}
 use mathlib.Core.Path.{_≡_, ap, refl, sym, _∙_}
 use Prim.Native.Nat.{ℕ, _+_, _-_, _<_, _≤_}

@@ -25,19 +25,10 @@ abbrev μ-loop : tie.MeasureT-loop
 loop-holds : tie.Need-loop-holds Inv-loop μ-loop
 loop-holds c = (refl, omega arith, omega arith, c .before .pre, refl)
 
-mul-v : tie.Need-mul-v Inv-loop μ-loop
-mul-v c = omega arith
-
-shared-slice-read-wide : tie.Need-shared-slice-read-wide Inv-loop μ-loop
-shared-slice-read-wide c = omega arith
-
 sub-wide : tie.Need-sub-wide Inv-loop μ-loop
 sub-wide c =
     let l = c .before .before .loop in
     digit-here (c .before .before .before .before .args .digits .now) (l .i) (omega arith) (l .inv .3) .0
-
-wide-requires : tie.Need-wide-requires Inv-loop μ-loop
-wide-requires c κs = search needs
 
 add-v : tie.Need-add-v Inv-loop μ-loop
 add-v c =
@@ -54,12 +45,6 @@ returns c =
     let above : 4294967295 < valueOf digits = omega (arith, on, grown, c .before .wide .ensures) in
     rw (lt-leb (valueOf digits) 4294967295 above)
 
-add-i : tie.Need-add-i Inv-loop μ-loop
-add-i c = omega arith
-
-loop-less : tie.Need-loop-less Inv-loop μ-loop
-loop-less c = omega arith
-
 loop-again : tie.Need-loop-again Inv-loop μ-loop
 loop-again c =
     let l = c .before .before .before .before .loop in
@@ -72,9 +57,6 @@ loop-again c =
           ∙ value-on digits (l .i) (omega arith) (l .v)
           ∙ ap (λ (k : ℕ). valueAfter (l .v * 10 + k) (drop (l .i + 1) digits)) (sym (c .before .wide .ensures)),
     )
-
-cast-t11 : tie.Need-cast-t11 Inv-loop μ-loop
-cast-t11 c = omega arith
 
 returns-2 : tie.Need-returns-2 Inv-loop μ-loop
 unfolding valueAfter
@@ -92,14 +74,14 @@ value-spec =
     Inv-loop
     μ-loop
     loop-holds
-    mul-v
-    shared-slice-read-wide
+    (λ c. search needs)
+    (λ c. search needs)
     sub-wide
-    wide-requires
+    (λ c κs. search needs)
     add-v
     returns
-    add-i
-    loop-less
+    (λ c. search needs)
+    (λ c. search needs)
     loop-again
-    cast-t11
+    (λ c. search needs)
     returns-2)
