@@ -4,7 +4,7 @@ use mathlib.Core.Path.{_≡_, sym, ap, ap₂, _∙_}
 use Prim.Native.Nat.{ℕ, _+_, _-_, _≤_}
 use native.Mathlib.Omega.{arith}
 use borrow.Rule.Slice.PartMut.{mid-len, post-is, postOf, putMid, same-len-mid}
-use lib.ListN.{drop, length, length-drop, take, drop-of-length-le}
+use lib.ListN.{drop, length, take, drop-of-length-le}
 use lib.Seq.{drop-append-le, drop-append-seam, length-take-le, take-append-add, take-append-seam}
 use Rattle.standard.specs.Bits.{bytesOf}
 use Rattle.standard.specs.Confidentiality.{keptByClean}

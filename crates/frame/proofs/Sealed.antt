@@ -1,6 +1,6 @@
 -- What EEA3 and EIA3 in one call give of a key, fields and a body that they take: the standard's masked body and tag; by their tests.
 use mathlib.Core.List.{List, [], _∷_}
-use mathlib.Core.Path.{_≡_, ap, _∙_}
+use mathlib.Core.Path.{_≡_}
 use Prim.Native.Nat.{ℕ, _+_, _*_}
 use native.Mathlib.Omega.{arith}
 use borrow.Author.Tests.{eq-eqb, le-leb}
@@ -12,8 +12,7 @@ use Rattle.standard.specs.Refusals.{accepted, bitsTest, fieldTest, keyTest, lim
 use Rattle.standard.specs.States.{limit}
 use Rattle.standard.proofs.Tested.{passed}
 use Rattle.mac.specs.Calls.{refusedOnce, strictOnceOutcome-EIA3}
-use Rattle.mac.specs.Calls as mac
-use Rattle.mask.specs.Once.{Once, drawnOnce, strictClean-EEA3, strictTested}
+use Rattle.mask.specs.Once.{drawnOnce, strictClean-EEA3, strictTested}
 use Rattle.mask.specs.Once as mask
 use Rattle.frame.specs.Inner.{Sealable}
 

@@ -1,14 +1,13 @@
 // A sealed block two vendors can read (request 2026-01): a frame is written and read in the buffer that the caller lends, and in no other.
 ghost use mathlib.Core.Path.{_≡_};
-ghost use mathlib.Core.List.{[], _∷_, _++_};
-ghost use Prim.Native.Nat.{_≤_, _+_, _-_};
+ghost use Prim.Native.Nat.{_≤_, _+_};
 ghost use lib.Dec.{eqb};
-ghost use lib.ListN.{length, take, drop};
+ghost use lib.ListN.{length};
 ghost use Rattle.frame.specs.Inner.{Sealable, Taken};
 ghost use Rattle.frame.specs.Outcome.{fieldsOf, numberOf, readOutcome, readTests, readTold, writeOutcome, writeTests, writtenTold};
 ghost use Rattle.mac.specs.Calls.{onceTold-128};
 ghost use Rattle.standard.specs.Bits.{bytesOf};
-ghost use Rattle.standard.specs.Frame.{bodyFits, bodyIn, fieldsIn, fourAt, frameOf, headOf, maskedBody, tagOver, twoAt, withBody};
+ghost use Rattle.standard.specs.Frame.{bodyFits, bodyIn, fieldsIn, fourAt, frameOf, headOf, maskedBody, tagOver, twoAt};
 ghost use Rattle.standard.specs.Refusals.{accepted, tested};
 use mac::Once128;
 use words::byte_of;

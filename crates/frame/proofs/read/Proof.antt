@@ -11,7 +11,7 @@ use borrow.Author.Tests.{eqb-false, eqb-true, not-false, not-true}
 use Rattle.standard.specs.Refusals.{accepted}
 use Rattle.standard.specs.Frame.{Fields, bodyIn, fieldsIn, maskedBody, withBody}
 use Rattle.frame.specs.Inner.{Sealable}
-use Rattle.frame.specs.Outcome.{fieldsOf, numberOf, readOutcome, readTests}
+use Rattle.frame.specs.Outcome.{numberOf, readOutcome, readTests}
 use Rattle.frame.proofs.Body.{lent-body}
 use Rattle.frame.proofs.Order.{answered, refused-by}
 use Rattle.frame.proofs.Passed.{openable, past-read, read-numbered}
