@@ -10,7 +10,7 @@ use words::byte_of;
 use words::fields_fit;
 
 // The IV. A bearer keeps its low 5 bits, a direction its low bit.
-fn iv(count: u32, bearer: u8, direction: u8) -> [u8; 16]
+pub fn iv(count: u32, bearer: u8, direction: u8) -> [u8; 16]
     ensures { λ r. ⌜ r ≡ IV-EEA3 count bearer direction ⌝ }
 {
     let c0 = byte_of(count, 0);

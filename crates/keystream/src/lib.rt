@@ -11,6 +11,7 @@ use zuc::Zuc;
 use zuc::boxes::s0;
 use zuc::boxes::s1;
 use zuc::is_formed;
+use zuc_turn::raised;
 
 pub mod eea3;
 pub mod zuc128;
@@ -80,9 +81,9 @@ fn started_from(loaded: Loaded) -> Start
     requires { ⌜ Cells (loaded .s) ⌝ }
     ensures { λ r. ⌜ startTold r ≡ acceptedStart (loadedOf loaded) ⌝ }
 {
-    let t0 = s0();
-    let t1 = s1();
-    let z = zuc::init(&t0, &t1, loaded);
+    let high = raised();
+    let low = s1();
+    let z = zuc_bulk::startup::init(&high, &low, loaded);
     Start {
         answer: StartAnswer::Started,
         state: Generator { z, count: 0 },
@@ -146,9 +147,9 @@ pub fn fill(state: Generator, buffer: &mut [u32]) -> Filling
             state,
         };
     }
-    let t0 = s0();
-    let t1 = s1();
-    let z = zuc_bulk::words_into(&t0, &t1, state.z, buffer);
+    let high = raised();
+    let low = s1();
+    let z = zuc_bulk::words_into(&high, &low, state.z, buffer);
     Filling {
         answer: FillAnswer::Filled,
         state: Generator {

@@ -19,6 +19,7 @@ use words::bits_fit;
 use words::has_left;
 use zuc::boxes::s0;
 use zuc::boxes::s1;
+use zuc_turn::raised;
 
 pub mod eia3;
 pub mod zuc128;
@@ -162,9 +163,9 @@ fn update_state(ok: bool, state: TagState, count: usize, message: &[u8]) -> Upda
     if !has_left(count, drawn) {
         return refused_update(UpdateAnswer::Spent, state, count);
     }
-    let t0 = s0();
-    let t1 = s1();
-    let next = mac_tagging::updates::update(&t0, &t1, state, message);
+    let high = raised();
+    let low = s1();
+    let next = mac_tagging::updates::update(&high, &low, state, message);
     Update {
         answer: UpdateAnswer::Done,
         state: next,

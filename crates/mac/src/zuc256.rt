@@ -19,6 +19,7 @@ use words::bits_fit;
 use words::has_left;
 use zuc::boxes::s0;
 use zuc::boxes::s1;
+use zuc_turn::raised;
 
 fn refused(answer: StartAnswer) -> Start256
     ensures { λ r. ⌜ (r .answer ≡ answer) × (taggedOf-256 (r .mac) ≡ fromStart zeroStored) ⌝ }
@@ -96,9 +97,9 @@ pub fn finish(mac: Mac256, tail: &[u8], l: usize) -> Finish256
             mac,
         };
     }
-    let t0 = s0();
-    let t1 = s1();
-    let tag = close_256(&t0, &t1, s, tail, l);
+    let high = raised();
+    let low = s1();
+    let tag = close_256(&high, &low, s, tail, l);
     let zero = zero_state();
     Finish256 {
         answer: Tag256::Tag(tag[0], tag[1]),
@@ -126,8 +127,9 @@ pub fn compute(width: usize, key: &[u8], iv: &[u8], message: &[u8], l: usize) ->
             }
             let t0 = s0();
             let t1 = s1();
+            let high = raised();
             let state = begin_256(&t0, &t1, width, g);
-            let tag = close_256(&t0, &t1, state, message, l);
+            let tag = close_256(&high, &t1, state, message, l);
             Once256::Tag(tag[0], tag[1])
         }
         StartAnswer::BadWidth => Once256::BadWidth,

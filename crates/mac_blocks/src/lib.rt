@@ -9,6 +9,7 @@ ghost use Rattle.mac_registers.specs.Stored.{packed, storedOf, tagWords, taggin
 ghost use Rattle.mac_registers.specs.Inner.{Holds, Width};
 ghost use Rattle.mac_registers.specs.Tagging.{updated};
 ghost use Rattle.mac_blocks.specs.InnerWhole.{Portion, bitsOf, fedBy};
+ghost use Rattle.zuc_turn.specs.InnerRun.{raisedOf};
 use mac_registers::Moved;
 use mac_registers::TagState;
 use mac_registers::key_on;
@@ -59,8 +60,8 @@ fn feed_all(width: usize, key: [u64; 4], tag: [u64; 2], words: &[u32], part: &[u
 }
 
 // Whole blocks, at most 1024 bytes, where nothing waits.
-fn feed(t0: &[u8; 256], t1: &[u8; 256], s: TagState, part: &[u8]) -> TagState
-    requires { ⌜ now t0 ≡ S₀-table ⌝ ∗ ⌜ now t1 ≡ S₁-table ⌝ ∗ ⌜ Holds (storedOf s) ⌝ ∗ ⌜ (s .cnt ≡ 0) × (length (now part) ≤ 1024) × ((n : ℕ) × (length (now part) ≡ n * s .width)) ⌝ }
+fn feed(high: &[u16; 256], low: &[u8; 256], s: TagState, part: &[u8]) -> TagState
+    requires { ⌜ now high ≡ raisedOf S₀-table ⌝ ∗ ⌜ now low ≡ S₁-table ⌝ ∗ ⌜ Holds (storedOf s) ⌝ ∗ ⌜ (s .cnt ≡ 0) × (length (now part) ≤ 1024) × ((n : ℕ) × (length (now part) ≡ n * s .width)) ⌝ }
     ensures { λ r. ⌜ (storedOf r ≡ packed (s .width) (updated (s .width * 8) (taggingOf (storedOf s)) (now (part .entry)))) × (r .cnt ≡ 0) ⌝ }
 {
     let width = s.width;
@@ -69,7 +70,7 @@ fn feed(t0: &[u8; 256], t1: &[u8; 256], s: TagState, part: &[u8]) -> TagState
     let g = s.g;
     let n = part.len() / 4;
     let mut words = [0u32; 256];
-    let next = zuc_bulk::words_into(t0, t1, g, &mut words[..n]);
+    let next = zuc_bulk::words_into(high, low, g, &mut words[..n]);
     let fed = feed_all(width, key, tag, &words[..n], part);
     let moved = fed.key;
     let sum = fed.tag;
@@ -95,8 +96,14 @@ fn portion(width: usize, left: usize) -> usize
 }
 
 // Whole blocks, as many as there are, where nothing waits.
-pub fn blocks(t0: &[u8; 256], t1: &[u8; 256], start: TagState, message: &[u8], from: usize) -> Moved
-    requires { ⌜ now t0 ≡ S₀-table ⌝ ∗ ⌜ now t1 ≡ S₁-table ⌝ ∗ ⌜ Holds (storedOf start) ⌝ ∗ ⌜ (start .cnt ≡ 0) × (from ≤ length (now message)) ⌝ }
+pub fn blocks(
+    high: &[u16; 256],
+    low: &[u8; 256],
+    start: TagState,
+    message: &[u8],
+    from: usize,
+) -> Moved
+    requires { ⌜ now high ≡ raisedOf S₀-table ⌝ ∗ ⌜ now low ≡ S₁-table ⌝ ∗ ⌜ Holds (storedOf start) ⌝ ∗ ⌜ (start .cnt ≡ 0) × (from ≤ length (now message)) ⌝ }
     ensures { λ r. ⌜ Blocks (storedOf start) (now (message .entry)) from (storedOf (r .s)) (r .at) ⌝ }
 {
     let width = start.width;
@@ -104,7 +111,7 @@ pub fn blocks(t0: &[u8; 256], t1: &[u8; 256], start: TagState, message: &[u8], f
     let mut i = from;
     while width <= message.len() - i {
         let e = i + portion(width, message.len() - i);
-        s = feed(t0, t1, s, &message[i..e]);
+        s = feed(high, low, s, &message[i..e]);
         i = e;
     }
     Moved { s, at: i }

@@ -19,7 +19,6 @@ use zuc_bulk::rest;
 use zuc_bulk::smaller;
 use zuc_bulk::state_of;
 use zuc_turn::Halves;
-use zuc_turn::raised;
 use zuc_turn::turn;
 
 // What the loop carries beside the run: the registers, the key pair and the tag; and the index at which the cells will start.
@@ -65,19 +64,18 @@ fn words_32(
 
 // Whole blocks, as many as there are, where nothing waits.
 pub fn blocks_32(
-    t0: &[u8; 256],
-    t1: &[u8; 256],
+    high: &[u16; 256],
+    low: &[u8; 256],
     start: TagState,
     message: &[u8],
     from: usize,
 ) -> Moved
-    requires { ⌜ now t0 ≡ S₀-table ⌝ ∗ ⌜ now t1 ≡ S₁-table ⌝ ∗ ⌜ Holds (storedOf start) ⌝ ∗ ⌜ (start .cnt ≡ 0) × (from ≤ length (now message)) ⌝ ∗ ⌜ start .width ≡ 4 ⌝ }
+    requires { ⌜ now high ≡ raisedOf S₀-table ⌝ ∗ ⌜ now low ≡ S₁-table ⌝ ∗ ⌜ Holds (storedOf start) ⌝ ∗ ⌜ (start .cnt ≡ 0) × (from ≤ length (now message)) ⌝ ∗ ⌜ start .width ≡ 4 ⌝ }
     ensures { λ r. ⌜ Blocks (storedOf start) (now (message .entry)) from (storedOf (r .s)) (r .at) ⌝ }
 {
     let g = start.g;
     let key = start.key;
     let tag = start.tag;
-    let high = raised(t0);
     let mut run = [0u32; 80];
     let mut pairs = [0u32; 80];
     let h = lay_state(g, &mut run, &mut pairs);
@@ -90,7 +88,7 @@ pub fn blocks_32(
     let mut i = from;
     while 4 <= message.len() - i {
         let e = i + smaller(256, (message.len() - i) / 4 * 4);
-        s = words_32(&high, t1, &mut run, &mut pairs, s, &message[i..e]);
+        s = words_32(high, low, &mut run, &mut pairs, s, &message[i..e]);
         i = e;
     }
     let last = s.h;

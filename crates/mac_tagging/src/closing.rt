@@ -9,10 +9,12 @@ ghost use Rattle.mac_registers.specs.Stored.{storedOf, tagWords, taggingOf};
 ghost use Rattle.mac_registers.specs.Inner.{Holds, lastByte};
 ghost use Rattle.mac_registers.specs.Tagging.{closed-EIA3, closed-ZUC256, lastTag};
 ghost use Rattle.mac_tagging.specs.InnerSteps.{extraDraw};
+ghost use Rattle.zuc_turn.specs.InnerRun.{raisedOf};
 use super::updates::update;
 use mac_registers::TagState;
 use mac_registers::tag_with;
 use zuc::Drawn;
+use zuc_turn::raised;
 
 // A byte's r high bits, a set bit after them, and zeros.
 fn marked(b: u8, r: usize) -> u8
@@ -48,12 +50,12 @@ fn last_tag(s: TagState, tail: &[u8], q: usize, r: usize) -> [u64; 2]
 }
 
 // The closing of a ZUC-256 tag by l bits of a tail.
-pub fn close_256(t0: &[u8; 256], t1: &[u8; 256], s: TagState, tail: &[u8], l: usize) -> [u64; 2]
-    requires { ⌜ now t0 ≡ S₀-table ⌝ ∗ ⌜ now t1 ≡ S₁-table ⌝ ∗ ⌜ Holds (storedOf s) ⌝ ∗ ⌜ l ≤ length (now tail) * 8 ⌝ }
+pub fn close_256(high: &[u16; 256], low: &[u8; 256], s: TagState, tail: &[u8], l: usize) -> [u64; 2]
+    requires { ⌜ now high ≡ raisedOf S₀-table ⌝ ∗ ⌜ now low ≡ S₁-table ⌝ ∗ ⌜ Holds (storedOf s) ⌝ ∗ ⌜ l ≤ length (now tail) * 8 ⌝ }
     ensures { λ x. ⌜ x ≡ tagWords (s .width) (closed-ZUC256 (s .width * 8) (taggingOf (storedOf s)) (now (tail .entry)) l) ⌝ }
 {
     let q = l / 8;
-    let e = update(t0, t1, s, &tail[..q]);
+    let e = update(high, low, s, &tail[..q]);
     last_tag(e, tail, q, l % 8)
 }
 
@@ -80,7 +82,8 @@ pub fn close_128(t0: &[u8; 256], t1: &[u8; 256], s: TagState, tail: &[u8], l: us
 {
     let q = l / 8;
     let r = l % 8;
-    let e = update(t0, t1, s, &tail[..q]);
+    let high = raised();
+    let e = update(&high, t1, s, &tail[..q]);
     let tag = last_tag(e, tail, q, r);
     let d = extra(t0, t1, e, e.cnt * 8 + r);
     (tag[0] as u32) ^ d.word

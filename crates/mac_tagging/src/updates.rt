@@ -9,6 +9,7 @@ ghost use Rattle.mac_registers.specs.Stored.{packed, storedOf, tagOf, tagWords,
 ghost use Rattle.mac_registers.specs.Inner.{Holds, Width, begun};
 ghost use Rattle.mac_registers.specs.Tagging.{absorbed, begun-EIA3, begun-ZUC256, updated};
 ghost use Rattle.mac_tagging.specs.InnerSteps.{Turned};
+ghost use Rattle.zuc_turn.specs.InnerRun.{raisedOf};
 use mac_blocks::blocks;
 use mac_narrow::blocks_32;
 use mac_registers::Moved;
@@ -58,8 +59,8 @@ pub fn begin_256(t0: &[u8; 256], t1: &[u8; 256], width: usize, g: Zuc) -> TagSta
 }
 
 // One message byte: it waits, or completes a block.
-fn absorb(t0: &[u8; 256], t1: &[u8; 256], s: TagState, b: u8) -> TagState
-    requires { ⌜ now t0 ≡ S₀-table ⌝ ∗ ⌜ now t1 ≡ S₁-table ⌝ ∗ ⌜ Holds (storedOf s) ⌝ }
+fn absorb(high: &[u16; 256], low: &[u8; 256], s: TagState, b: u8) -> TagState
+    requires { ⌜ now high ≡ raisedOf S₀-table ⌝ ∗ ⌜ now low ≡ S₁-table ⌝ ∗ ⌜ Holds (storedOf s) ⌝ }
     ensures { λ r. ⌜ storedOf r ≡ packed (s .width) (absorbed (s .width * 8) (taggingOf (storedOf s)) b) ⌝ }
 {
     let at = s.cnt;
@@ -87,13 +88,13 @@ fn absorb(t0: &[u8; 256], t1: &[u8; 256], s: TagState, b: u8) -> TagState
         cnt: 0,
         width,
     };
-    let r = blocks(t0, t1, empty, &rem[..width], 0);
+    let r = blocks(high, low, empty, &rem[..width], 0);
     r.s
 }
 
 // The next blocks where nothing waits, and else the next byte.
-fn turn(t0: &[u8; 256], t1: &[u8; 256], s: TagState, message: &[u8], i: usize) -> Moved
-    requires { ⌜ now t0 ≡ S₀-table ⌝ ∗ ⌜ now t1 ≡ S₁-table ⌝ ∗ ⌜ Holds (storedOf s) ⌝ ∗ ⌜ i < length (now message) ⌝ }
+fn turn(high: &[u16; 256], low: &[u8; 256], s: TagState, message: &[u8], i: usize) -> Moved
+    requires { ⌜ now high ≡ raisedOf S₀-table ⌝ ∗ ⌜ now low ≡ S₁-table ⌝ ∗ ⌜ Holds (storedOf s) ⌝ ∗ ⌜ i < length (now message) ⌝ }
     ensures { λ r. ⌜ Turned (storedOf s) (now (message .entry)) i (storedOf (r .s)) (r .at) ⌝ }
 {
     let cnt = s.cnt;
@@ -101,23 +102,23 @@ fn turn(t0: &[u8; 256], t1: &[u8; 256], s: TagState, message: &[u8], i: usize) -
     if cnt == 0 {
         if width <= message.len() - i {
             if width == 4 {
-                return blocks_32(t0, t1, s, message, i);
+                return blocks_32(high, low, s, message, i);
             }
-            return blocks(t0, t1, s, message, i);
+            return blocks(high, low, s, message, i);
         }
     }
-    let r = absorb(t0, t1, s, message[i]);
+    let r = absorb(high, low, s, message[i]);
     Moved { s: r, at: i + 1 }
 }
 
-pub fn update(t0: &[u8; 256], t1: &[u8; 256], start: TagState, message: &[u8]) -> TagState
-    requires { ⌜ now t0 ≡ S₀-table ⌝ ∗ ⌜ now t1 ≡ S₁-table ⌝ ∗ ⌜ Holds (storedOf start) ⌝ }
+pub fn update(high: &[u16; 256], low: &[u8; 256], start: TagState, message: &[u8]) -> TagState
+    requires { ⌜ now high ≡ raisedOf S₀-table ⌝ ∗ ⌜ now low ≡ S₁-table ⌝ ∗ ⌜ Holds (storedOf start) ⌝ }
     ensures { λ r. ⌜ storedOf r ≡ packed (start .width) (updated (start .width * 8) (taggingOf (storedOf start)) (now (message .entry))) ⌝ }
 {
     let mut s = start;
     let mut i: usize = 0;
     while i < message.len() {
-        let t = turn(t0, t1, s, message, i);
+        let t = turn(high, low, s, message, i);
         let next = t.s;
         s = next;
         i = t.at;

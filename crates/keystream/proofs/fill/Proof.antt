@@ -37,9 +37,9 @@ words-into-requires : tie.Need-words-into-requires
 words-into-requires c κs =
     let passed = c .before .before .before .before .before in
     let at = passed .before .before .before in
-    (c .before .before .before .before .s0 .ensures, (c .before .before .before .s1 .ensures, formed-ready _ (search needs) (sym (at .is-formed .ensures) ∙ not-false (at .is-formed .result) (passed .before .before .if1 .left)) .0))
+    (c .before .before .before .before .raised .ensures, (c .before .before .before .s1 .ensures, formed-ready _ (search needs) (sym (at .is-formed .ensures) ∙ not-false (at .is-formed .result) (passed .before .before .if1 .left)) .0))
 
-add-count : tie.Need-add-t18
+add-count : tie.Need-add-t19
 add-count c =
     let passed = c .before .before .before .before .before .before .before .before in
     let left = passed .before in

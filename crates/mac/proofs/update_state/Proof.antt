@@ -47,7 +47,7 @@ returns-2 c =
 update-requires : tie.Need-update-requires
 update-requires c κs =
     let i = c .before .before .before .before .before .before .before in
-    (c .before .before .before .s0 .ensures, (c .before .before .s1 .ensures, within i .0))
+    (c .before .before .before .raised .ensures, (c .before .before .s1 .ensures, within i .0))
 
 add-count : tie.Need-add-t11
 add-count c =

@@ -17,14 +17,14 @@ use Rattle.mac_blocks.proofs.blocks.Statement.{statement}
 use Rattle.mac_blocks.proofs.blocks.Tie as tie
 
 abbrev Inv-loop : tie.InvT-loop
-Inv-loop t0 t1 message from width s₀ i₀ s i =
+Inv-loop high low message from width s₀ i₀ s i =
     (i ≤ length message)
     × (s .cnt ≡ 0)
     × ((n : ℕ) × (i ≡ from + n * s₀ .width))
     × (storedOf s ≡ packed (s₀ .width) (updated (s₀ .width * 8) (taggingOf (storedOf s₀)) (take (i - from) (drop from message))))
 
 abbrev μ-loop : tie.MeasureT-loop
-μ-loop t0 t1 message from width s₀ i₀ s i = length message - i
+μ-loop high low message from width s₀ i₀ s i = length message - i
 
 loop-holds : tie.Need-loop-holds Inv-loop μ-loop
 unfolding updated

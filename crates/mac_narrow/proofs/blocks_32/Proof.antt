@@ -7,7 +7,6 @@ use Prim.Native.Nat.{ℕ, _+_, _*_, _-_, _/_, _≤_}
 use Rattle.standard.specs.Generator.{State}
 use Rattle.standard.specs.States.{Held}
 use Rattle.standard.specs.Notation.{_⟨_⟩}
-use Rattle.zuc_turn.specs.InnerRun.{raisedOf}
 use borrow.Author.Needs.{needs}
 use Rattle.mac_registers.specs.Stored.{packed, storedOf, tagOf, taggingOf}
 use Rattle.mac_registers.specs.Tagging.{Tagging, updated}
@@ -18,49 +17,48 @@ use Rattle.mac_narrow.proofs.blocks_32.Statement.{statement}
 use Rattle.mac_narrow.proofs.blocks_32.Tie as tie
 
 abbrev Inv-loop : tie.InvT-loop
-Inv-loop t0 t1 message from high run₀ pairs₀ s₀ i₀ run pairs s i =
+Inv-loop high low message from run₀ pairs₀ s₀ i₀ run pairs s i =
     (i ≤ length message)
     × ((n : ℕ) × (i ≡ from + n * 4))
     × Tagged run pairs s (updated 32 (taggingAt run₀ s₀) (take (i - from) (drop from message)))
 
 abbrev μ-loop : tie.MeasureT-loop
-μ-loop t0 t1 message from high run₀ pairs₀ s₀ i₀ run pairs s i = length message - i
+μ-loop high low message from run₀ pairs₀ s₀ i₀ run pairs s i = length message - i
 
 lay-state-requires : tie.Need-lay-state-requires Inv-loop μ-loop
 unfolding taggingOf
-lay-state-requires c κs = ((refl, refl), c .before .before .before .before .before .before .before .pre .1 .1 .0 .good .sound)
+lay-state-requires c κs = ((refl, refl), c .before .before .before .before .before .before .pre .1 .1 .0 .good .sound)
 
-cast-t29 : tie.Need-cast-t29 Inv-loop μ-loop
+cast-t27 : tie.Need-cast-t27 Inv-loop μ-loop
 unfolding taggingOf tagOf
-cast-t29 c =
-    let pre = c .before .before .before .before .before .before .before .before .before .before .pre .1 .1 in
+cast-t27 c =
+    let pre = c .before .before .before .before .before .before .before .before .before .pre .1 .1 in
     record { fits = rw (pre .1 .1) at (pre .0 .good .tag-lt) }
 
 loop-holds : tie.Need-loop-holds Inv-loop μ-loop
 unfolding updated taggingOf
 loop-holds c =
-    let start = c .before .before .before .before .before .before .before .before .before .before in
+    let start = c .before .before .before .before .before .before .before .before .before in
     let laid = c .before .before .lay-state .ensures in
     let none : start .args .from - start .args .from ≡ 0 = omega arith in
     (start .pre .1 .1 .1 .0 .1, (0, omega arith), record { laid = laid .laid; low = laid .low; start = start .pre .1 .1 .0 .good .sound .start; tagging = rw none refl })
 
 words-32-requires : tie.Need-words-32-requires Inv-loop μ-loop
 words-32-requires c κs =
-    let loop = c .before .before .before .before .before .before in
-    let at-raised = loop .before .before .before .before .before .before in
-    let pre = at-raised .before .before .before .before .before .pre in
+    let loop = c .before .before .before .before .before in
+    let pre = loop .before .before .before .before .before .before .before .before .before .before .pre in
     let l = loop .loop in (
-      at-raised .raised .ensures ∙ ap raisedOf (pre .0),
+      pre .0,
       (pre .1 .0, (l .inv .2 .laid, ((l .inv .2 .low, l .inv .2 .start), (simp (length-take, length-drop) (omega arith), simp (length-take, length-drop) (omega arith))))),
     )
 
 loop-again : tie.Need-loop-again Inv-loop μ-loop
 loop-again c =
     let at-words = c .before .before in
-    let at-smaller = at-words .before .before .before .before .before in
+    let at-smaller = at-words .before .before .before .before in
     let loop = at-smaller .before .before in
     let l = loop .loop in
-    let a = loop .before .before .before .before .before .before .before .before .before .before .before .args in
+    let a = loop .before .before .before .before .before .before .before .before .before .before .args in
     let m : List ℕ = a .message .now in
     let e : ℕ = l .i + at-smaller .smaller .result in
     let f = at-words .words-32 .ensures in (
@@ -78,14 +76,14 @@ loop-again c =
     )
 
 state-of-requires : tie.Need-state-of-requires Inv-loop μ-loop
-state-of-requires c κs = let l = c .before .before .before .loop in (l .inv .2 .laid .long, (l .inv .2 .low, l .inv .2 .start))
+state-of-requires c κs = let l = c .before .before .before .loop in (omega (arith, l .inv .2 .laid .long), (l .inv .2 .low, l .inv .2 .start))
 
 returns : tie.Need-returns Inv-loop μ-loop
 returns c =
     let loop = c .before .before .before .before .before in
     let l = loop .loop in
     let at-lay = loop .before .before .before in
-    let start = at-lay .before .before .before .before .before .before .before .before in
+    let start = at-lay .before .before .before .before .before .before .before in
     let a = start .args in
     let pre = start .pre .1 .1 .1 in
     let width : a .start .width ≡ 4 = pre .1 in
@@ -113,13 +111,12 @@ blocks-32-spec =
     (tie.spec
     Inv-loop
     μ-loop
-    (λ c κs. search needs)
     (λ c. search needs)
     (λ c. search needs)
     lay-state-requires
     (λ c. search needs)
     (λ c. search needs)
-    cast-t29
+    cast-t27
     loop-holds
     (λ c. search needs)
     (λ c. search needs)

@@ -14,7 +14,7 @@ use Rattle.standard.specs.States.{Held, moved}
 use Rattle.zuc_bulk.proofs.Filling.{turn-on}
 use Rattle.zuc.specs.Reading.{heldOf}
 use Rattle.zuc.specs.Inner.{Draw}
-use Rattle.zuc_turn.specs.InnerRun.{Standing, raisedOf, stateAt}
+use Rattle.zuc_turn.specs.InnerRun.{Standing, stateAt}
 use Rattle.mask_bulk.proofs.Words.{alone, turn-masked, turn-state}
 use Rattle.mask_bulk.proofs.mask_all.Statement.{statement}
 use Rattle.mask_bulk.proofs.mask_all.Tie as tie
@@ -44,7 +44,7 @@ mask-block-requires c κs =
     let at-raised = loop .before .before .before .before .before .before in
     let start = at-raised .before .before in
     let standing = loop .loop .inv .3 in
-    (at-raised .raised .ensures ∙ ap raisedOf (start .pre .0), (start .pre .1 .0, (standing .laid, (standing .low, (simp (length-take, length-drop) (omega arith), simp (length-take, length-drop) (omega arith))))))
+    (at-raised .raised .ensures, (start .pre .1 .0, (standing .laid, (standing .low, (simp (length-take, length-drop) (omega arith), simp (length-take, length-drop) (omega arith))))))
 
 loop-again : tie.Need-loop-again Inv-loop μ-loop
 loop-again c =
@@ -70,7 +70,7 @@ index-after-requires c κs = c .before .before .before .before .before .before .
 state-of-requires : tie.Need-state-of-requires Inv-loop μ-loop
 state-of-requires c κs =
     let standing = c .before .before .before .loop .inv .3 in
-    (standing .laid .long, (standing .low, omega (arith, c .index-after .ensures)))
+    (omega (arith, standing .laid .long), (standing .low, omega (arith, c .index-after .ensures)))
 
 -- past the loop: the state that was lent, the one that the run began with, and the one taken back, after a word for each four bytes
 module _ (w : tie.After-state-of Inv-loop μ-loop) where

@@ -86,24 +86,24 @@ returns-2 c =
 
 begin-256-requires : tie.Need-begin-256-requires
 begin-256-requires c κs =
-    let m = c .before .before .before .before .before .before .before .before .before in
+    let m = c .before .before .before .before .before .before .before .before .before .before in
     let n = m .before .before .before in
     let e = ap startNumber (m .enum-told .given .1) in
-    (c .before .before .before .s0 .ensures, (c .before .before .s1 .ensures, (sound n e, width n e)))
+    (c .before .before .before .before .s0 .ensures, (c .before .before .before .s1 .ensures, (sound n e, width n e)))
 
 close-256-requires : tie.Need-close-256-requires
 close-256-requires c κs =
     let b = c .before .before in
-    let p = b .before .before .before .before .before in
+    let p = b .before .before .before .before .before .before in
     let i = p .before .before .before in
     let f = i .before in
     let m = f .before in
     let n = m .before .before .before in
     let a = n .before .before .before .before .args in
     let e = ap startNumber (m .enum-told .given .1) in (
-      b .before .before .before .before .s0 .ensures,
+      b .before .before .before .raised .ensures,
       (
-        b .before .before .before .s1 .ensures,
+        b .before .before .before .before .s1 .ensures,
         (
           held-as (b .begin-256 .ensures) (good-ZUC256 (width n e) (heldOf (n .new-with-d .result .state .z)) (sound n e)),
           leb-true (a .l) (length (now (a .message)) * 8) (sym (f .bits-fit .ensures) ∙ not-false (f .bits-fit .result) (i .if1 .left)),
@@ -115,7 +115,7 @@ returns-3 : tie.Need-returns-3
 unfolding once-from-256 tested
 returns-3 c =
     let b = c .before .before .before in
-    let p = b .before .before .before .before .before in
+    let p = b .before .before .before .before .before .before in
     let i = p .before .before .before in
     let f = i .before in
     let m = f .before in
@@ -158,4 +158,4 @@ returns-6 c =
 pub compute-spec : {M : Type 1} → statement M
 compute-spec =
     tie.close
-    (tie.spec (λ c κs. search needs) (λ c. search needs) (λ c κs. search needs) returns by-tag-256-requires (λ c κs. search needs) returns-2 (λ c κs. search needs) (λ c κs. search needs) begin-256-requires close-256-requires (λ c. search needs) (λ c. search needs) (λ c. search needs) (λ c. search needs) returns-3 returns-4 returns-5 returns-6)
+    (tie.spec (λ c κs. search needs) (λ c. search needs) (λ c κs. search needs) returns by-tag-256-requires (λ c κs. search needs) returns-2 (λ c κs. search needs) (λ c κs. search needs) (λ c κs. search needs) begin-256-requires close-256-requires (λ c. search needs) (λ c. search needs) (λ c. search needs) (λ c. search needs) returns-3 returns-4 returns-5 returns-6)

@@ -77,7 +77,7 @@ close-256-requires c κs =
     let a = f .before .before .before .args in
     let t = not-false (f .is-formed-256 .result) (b .before .if1 .left) in
     let l : leb (a .l) (length (now (a .tail)) * 8) ≡ true = sym (b .bits-fit .ensures) ∙ not-false (b .bits-fit .result) (i .if2 .left) in
-    (c .before .before .before .s0 .ensures, (c .before .before .s1 .ensures, (f .is-formed-256 .ensures .1 t .0, leb-true (a .l) (length (now (a .tail)) * 8) l)))
+    (c .before .before .before .raised .ensures, (c .before .before .s1 .ensures, (f .is-formed-256 .ensures .1 t .0, leb-true (a .l) (length (now (a .tail)) * 8) l)))
 
 returns-4 : tie.Need-returns-4
 unfolding finishOutcome-256

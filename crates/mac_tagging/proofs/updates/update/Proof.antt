@@ -13,11 +13,11 @@ use Rattle.mac_tagging.proofs.updates.update.Statement.{statement}
 use Rattle.mac_tagging.proofs.updates.update.Tie as tie
 
 abbrev Inv-loop : tie.InvT-loop
-Inv-loop t0 t1 message s₀ i₀ s i =
+Inv-loop high low message s₀ i₀ s i =
     (i ≤ length message) × (storedOf s ≡ packed (s₀ .width) (updated (s₀ .width * 8) (taggingOf (storedOf s₀)) (take i message)))
 
 abbrev μ-loop : tie.MeasureT-loop
-μ-loop t0 t1 message s₀ i₀ s i = length message - i
+μ-loop high low message s₀ i₀ s i = length message - i
 
 loop-holds : tie.Need-loop-holds Inv-loop μ-loop
 unfolding updated
