@@ -1,28 +1,27 @@
 -- EEA3 in one call: a key of 16 bytes starts a well-formed state, and a mask from it, with its state left out, is the call's outcome. By the
 -- tests of both, and the words of a state at rest.
 use mathlib.Core.Bool.{Bool, true}
-use mathlib.Core.List.{List, [], _∷_, _++_}
+use mathlib.Core.List.{List, [], _∷_}
 use mathlib.Core.Path.{_≡_, refl, sym, ap, _∙_}
-use Prim.Native.Nat.{ℕ, _%_, _^_, _<_}
+use Prim.Native.Nat.{ℕ}
 use native.Mathlib.Omega.{arith}
 use borrow.Author.Tests.{eq-eqb, ne-eqb}
 use lib.Dec.{lit<}
 use lib.ListN.{length}
-use Rattle.standard.specs.Confidentiality.{IV-EEA3, bytesIV-EEA3, halfIV-EEA3}
+use Rattle.standard.specs.Confidentiality.{IV-EEA3, bytesIV-EEA3}
 use Rattle.standard.specs.Generator.{State, keystream, started, wordAt}
 use Rattle.standard.specs.Loading.{load₁₂₈}
-use Rattle.standard.specs.Refusals.{Test, accepted, badBits, badField, badKey, badState, bitsTest, limitTest, spent, tested}
+use Rattle.standard.specs.Refusals.{Test, accepted, badBits, badField, badKey, bitsTest, limitTest, spent, tested}
 use Rattle.standard.specs.States.{Counted, Held, fromStart, fromZero, generatorFormed}
-use Rattle.standard.proofs.Cells.{All}
 use Rattle.standard.proofs.Fields.{InField, Strict, as-given-EEA3, in-field}
 use Rattle.standard.proofs.Generator.{sound-started, stream-is}
 use Rattle.standard.proofs.Held.{ready-generatorFormed}
-use Rattle.standard.proofs.Tested.{never-told, tested-map}
-use Rattle.zuc_loading.proofs.Loaded.{Bytes, byte-lt, cells-128, each-byte}
+use Rattle.standard.proofs.Tested.{tested-map}
+use Rattle.zuc_loading.proofs.Loaded.{Bytes, IV-EEA3-bytes, cells-128}
 use Rattle.keystream.specs.Starts.{start-EEA3}
 use Rattle.mask.specs.Modes.{maskOutcome, modeMask, modeWords, plain-EEA3, strict-EEA3}
 use Rattle.mask.specs.Once.{Once, drawnOnce, plainTested, refusedOnce, strictTested, withoutState}
-use Rattle.mask.specs.Outcome.{Outcome, drawn, maskTested, refused}
+use Rattle.mask.specs.Outcome.{drawn, maskTested, refused}
 
 module _ (count bearer direction : ℕ) (key : List ℕ) where
   abbrev pub loaded : State
@@ -35,18 +34,9 @@ module _ (count bearer direction : ℕ) (key : List ℕ) where
   unfolding start-EEA3 tested
   eea3-starts e = rw (eq-eqb (length key) 16 e) refl
 
-  -- its IV is bytes
-  half-before : (l : List ℕ) → All (λ x. x < 2 ^ 8) l → All (λ x. x < 2 ^ 8) (halfIV-EEA3 count (bearer % 2 ^ 5) (direction % 2) ++ l)
-  half-before l h =
-      (byte-lt count 0, (byte-lt count 1, (byte-lt count 2, (byte-lt count 3, (omega arith, (lit< tt, (lit< tt, (lit< tt, h))))))))
-
-  iv-bytes : Bytes (IV-EEA3 count bearer direction)
-  unfolding IV-EEA3
-  iv-bytes = each-byte (IV-EEA3 count bearer direction) (half-before (halfIV-EEA3 count (bearer % 2 ^ 5) (direction % 2)) (half-before [] tt))
-
   pub eea3-formed : Bytes key → generatorFormed fresh ≡ true
   eea3-formed hk =
-      ready-generatorFormed (record { cells = sound-started loaded (cells-128 key (IV-EEA3 count bearer direction) hk iv-bytes); start = lit< tt }) (omega arith)
+      ready-generatorFormed (record { cells = sound-started loaded (cells-128 key (IV-EEA3 count bearer direction) hk (IV-EEA3-bytes count bearer direction)); start = lit< tt }) (omega arith)
 
   -- a mask from it passes the test of its state
   module _ (hk : Bytes key) (words L : ℕ) (buffer masked : List ℕ) where
@@ -56,11 +46,6 @@ module _ (count bearer direction : ℕ) (key : List ℕ) where
     formed-passes : maskTested fresh words L buffer masked ≡ tested rest (refused fresh buffer) (drawn words fresh masked)
     unfolding maskTested tested
     formed-passes = rw (eea3-formed hk) refl
-
-    pub not-malformed : (o : Outcome) → o ≡ maskTested fresh words L buffer masked → o .number ≡ badState → ⊥
-    not-malformed o told e =
-        never-told (λ (x : Outcome). x .number) (refused fresh buffer) (λ n. refl) (drawn words fresh masked) badState (λ (q : accepted ≡ badState). omega arith) rest
-        (λ (q : badBits ≡ badState). omega arith, (λ (q : spent ≡ badState). omega arith, tt)) (ap (λ (x : Outcome). x .number) (sym (told ∙ formed-passes)) ∙ e)
 
     key-passes : length key ≡ 16 → plainTested key words L buffer masked ≡ tested rest (refusedOnce buffer) (drawnOnce words masked)
     unfolding plainTested tested

@@ -1,13 +1,19 @@
-// 128-EEA3 in one call: a start and a mask, in either mode, and the strict forms (request 2026-04). The state in between is nobody's.
+// 128-EEA3 in one call: start-up and mask on one run, in either mode, and the strict forms (request 2026-04). No state is written between.
+ghost use lib.ListN.{length};
 ghost use mathlib.Core.Path.{_≡_};
+ghost use Rattle.mask.specs.Inner.{Enough, endOf};
 ghost use Rattle.mask.specs.Modes.{plain-EEA3, strict-EEA3};
-ghost use Rattle.mask.specs.Once.{clean-EEA3, crate-EEA3, onceCount, onceNumber, onceTold, strictClean-EEA3, strictCrate-EEA3};
-ghost use Rattle.mask.specs.Outcome.{countOf, numberOf};
-ghost use Rattle.standard.specs.Refusals.{badState};
-use super::MaskAnswer;
-use super::clean_formed;
-use super::crate_formed;
+ghost use Rattle.mask.specs.Once.{clean-EEA3, crate-EEA3, onceTold, strictClean-EEA3, strictCrate-EEA3};
+ghost use Rattle.standard.specs.Confidentiality.{IV-EEA3, maskClean};
+ghost use Rattle.standard.specs.Generator.{keystream};
+ghost use Rattle.standard.specs.Loading.{load₁₂₈};
+use super::Reach;
+use super::mask_from;
+use super::reach_of;
+use keystream::eea3::iv;
 use words::fields_fit;
+use zuc::Zuc;
+use zuc_loading::zuc128::load;
 
 // The words drawn, or why the call was refused.
 pub enum OnceAnswer {
@@ -18,19 +24,38 @@ pub enum OnceAnswer {
     Spent,
 }
 
-// A mask's answer of a state that a start gave, which is well formed.
-fn once_of(answer: MaskAnswer) -> OnceAnswer
-    requires { ⌜ (numberOf answer ≡ badState → ⊥) ⌝ }
-    ensures { λ r. ⌜ (onceNumber r ≡ numberOf answer) × (onceCount r ≡ countOf answer) ⌝ }
+// The mask by the keystream of a key of 16 bytes. The state after it is nobody's, so that no word is drawn but for a byte.
+fn mask_by(
+    count: u32,
+    bearer: u8,
+    direction: u8,
+    key: &[u8],
+    buf: &mut [u8],
+    bits: usize,
+    reach: Reach,
+)
+    requires { ⌜ length (now key) ≡ 16 ⌝ ∗ ⌜ Enough (length (now buf)) bits reach ⌝ }
+    ensures { λ _. ⌜ now (buf .exit) ≡ maskClean (keystream (load₁₂₈ (now (key .entry)) (IV-EEA3 count bearer direction))) (endOf bits reach) (now (buf .entry)) ⌝ }
 {
-    match answer {
-        MaskAnswer::Done(n) => OnceAnswer::Done(n),
-        MaskAnswer::BadBits => OnceAnswer::BadBits,
-        _ => OnceAnswer::Spent,
-    }
+    let v = iv(count, bearer, direction);
+    let loaded = load(key, &v);
+    let s = loaded.s;
+    let z = Zuc {
+        s,
+        r1: loaded.r1,
+        r2: loaded.r2,
+        start: 0,
+    };
+    let to = reach.to;
+    let fewest = Reach {
+        kept: reach.kept,
+        to,
+        drawn: to / 4 + (to % 4 + 3) / 4,
+    };
+    mask_from(true, z, buf, bits, fewest);
 }
 
-// Both modes. What the start gives is well formed, so that nobody looks at it again.
+// Both modes. The tests come before start-up, so that a refusal does not pay for it.
 fn masked(
     clean: bool,
     count: u32,
@@ -45,16 +70,16 @@ fn masked(
     if key.len() != 16 {
         return OnceAnswer::BadKey;
     }
-    let start = keystream::eea3::new(count, bearer, direction, key);
-    let state = start.state;
-    if clean {
-        let done = clean_formed(state, buf, bits);
-        let answer = done.answer;
-        return once_of(answer);
+    if !words::bits_fit(bits, buf.len()) {
+        return OnceAnswer::BadBits;
     }
-    let done = crate_formed(state, buf, bits);
-    let answer = done.answer;
-    once_of(answer)
+    let reach = reach_of(clean, bits, buf.len());
+    let drawn = reach.drawn;
+    if !words::has_left(0, drawn) {
+        return OnceAnswer::Spent;
+    }
+    mask_by(count, bearer, direction, key, buf, bits, reach);
+    OnceAnswer::Done(drawn)
 }
 
 // Both modes of the strict form: a bearer above 31 or a direction above 1 is refused.

@@ -1,4 +1,4 @@
--- Words mask the bytes of the part lent at their place, byte by byte or as one number; a draw moves the state on by one.
+-- Words mask the bytes of the part lent at their place, byte by byte or as one number.
 use mathlib.Core.List.{List, [], _∷_, _++_}
 use mathlib.Core.Path.{_≡_, sym, ap, ap₂, _∙_}
 use Prim.Native.Nat.{ℕ, _+_, _-_, _*_, _/_, _^_, _<_, _≤_}
@@ -8,10 +8,8 @@ use lib.ListN.{length, getD, take, drop, set, length-take}
 use Rattle.standard.specs.Confidentiality.{masked}
 use Rattle.standard.specs.Bits.{byteOf}
 use Rattle.standard.specs.Generator.{State, wordAt}
-use Rattle.standard.specs.States.{Held, moved}
 use Rattle.standard.specs.Notation.{_⊕_, _‖₈_, eachFrom}
 use Rattle.standard.proofs.Each.{each-ext, doneFrom, from-lent}
-use Rattle.standard.proofs.Held.{moved-moved}
 use Rattle.standard.proofs.Twice.{byte-xor}
 
 -- the bytes of four bytes joined
@@ -35,10 +33,6 @@ four-stored f (w ∷ []) a b c d h p q r s = absurd (omega arith)
 four-stored f (w ∷ x ∷ []) a b c d h p q r s = absurd (omega arith)
 four-stored f (w ∷ x ∷ y ∷ []) a b c d h p q r s = absurd (omega arith)
 four-stored f (w ∷ x ∷ y ∷ z ∷ v ∷ l) a b c d h p q r s = absurd (omega arith)
-
--- a draw after i
-pub turn-state : (h k : Held) (i n : ℕ) → k ≡ moved i h → i + 1 ≡ n → moved 1 k ≡ moved n h
-turn-state h k i n e m = ap (moved 1) e ∙ moved-moved i 1 h ∙ ap (λ (j : ℕ). moved j h) m
 
 -- a part lent from byte i, where word k begins, to an end, and masked with words that are those from k on
 module _ (σ : State) (k i end : ℕ) (start : i ≡ 4 * k) where

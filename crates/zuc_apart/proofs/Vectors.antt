@@ -8,23 +8,16 @@ use native.Mathlib.Omega.{arith}
 use lib.Bits.{xor-zero-r}
 use lib.Dec.{lit<}
 use Rattle.standard.specs.Bits.{byteOf, bytesOf}
-use Rattle.standard.specs.Confidentiality.{IV-EEA3, halfIV-EEA3}
+use Rattle.standard.specs.Confidentiality.{IV-EEA3}
 use Rattle.standard.specs.Integrity.{IV-EIA3}
 use Rattle.standard.specs.Notation.{_⟨_⟩, _⊕_}
-use Rattle.standard.proofs.Cells.{All}
 use Rattle.standard.proofs.Parts.{OfBytes, parted, same-word}
-use Rattle.zuc_loading.proofs.Loaded.{byte-lt, each-byte}
+use Rattle.zuc_loading.proofs.Loaded.{IV-EEA3-bytes}
 
 -- EEA3's is sixteen bytes
 pub EEA3-bytes : (count bearer direction : ℕ) → OfBytes 16 (IV-EEA3 count bearer direction)
 unfolding IV-EEA3
-EEA3-bytes count bearer direction = record { long = refl; small = each-byte (IV-EEA3 count bearer direction) (before half (before [] tt)) }
-  where
-    half : List ℕ
-    half = halfIV-EEA3 count (bearer % 2 ^ 5) (direction % 2)
-
-    before : (l : List ℕ) → All (λ x. x < 2 ^ 8) l → All (λ x. x < 2 ^ 8) (halfIV-EEA3 count (bearer % 2 ^ 5) (direction % 2) ++ l)
-    before l h = (byte-lt count 0, (byte-lt count 1, (byte-lt count 2, (byte-lt count 3, (omega arith, (lit< tt, (lit< tt, (lit< tt, h))))))))
+EEA3-bytes count bearer direction = record { long = refl; small = IV-EEA3-bytes count bearer direction }
 
 -- both start with the bytes of COUNT
 count-same : (c c′ : ℕ) (l l′ : List ℕ) → c < 2 ^ 32 → c′ < 2 ^ 32 → bytesOf c ++ l ≡ bytesOf c′ ++ l′ → c ≡ c′

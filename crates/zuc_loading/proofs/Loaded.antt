@@ -3,7 +3,7 @@ use borrow.Author.Tests.{le-ltb, lt-ltb}
 use lib.Bits.{or-lt}
 use lib.Dec.{lit<, lit≤}
 use lib.ListN.{getD}
-use mathlib.Core.List.{List, [], _∷_}
+use mathlib.Core.List.{List, [], _∷_, _++_}
 use mathlib.Core.Path.{_≡_, _∙_, ap, refl, subst, sym}
 use native.Mathlib.Nat.{mod-lt, zero-add}
 use native.Mathlib.Omega.{arith}
@@ -15,6 +15,7 @@ use Rattle.standard.proofs.Linear.{M-lt}
 use Rattle.standard.proofs.Listed.{getD-listed, length-listed}
 use Rattle.standard.proofs.Window.{window-lt}
 use Rattle.standard.specs.Bits.{M, byteOf}
+use Rattle.standard.specs.Confidentiality.{IV-EEA3, halfIV-EEA3}
 use Rattle.standard.specs.Loading.{D, IV₂₅₆, cells₂₅₆, load₁₂₈, load₂₅₆}
 use Rattle.standard.specs.Notation.{_‖₁₅_, _‖₇_, _‖₈_, _⟨_⟩, _∣_, listed}
 
@@ -31,6 +32,17 @@ each-byte (b ∷ l) h (suc i) = each-byte l (h .1) i
 pub byte-lt : (x j : ℕ) → byteOf x j < 2 ^ 8
 unfolding byteOf
 byte-lt x j = mod-lt _ (lit< tt)
+
+-- EEA3's IV, of which one half stands twice
+pub IV-EEA3-bytes : (count bearer direction : ℕ) → Bytes (IV-EEA3 count bearer direction)
+unfolding IV-EEA3
+IV-EEA3-bytes count bearer direction = each-byte (IV-EEA3 count bearer direction) (before half (before [] tt))
+  where
+    half : List ℕ
+    half = halfIV-EEA3 count (bearer % 2 ^ 5) (direction % 2)
+
+    before : (l : List ℕ) → All (λ x. x < 2 ^ 8) l → All (λ x. x < 2 ^ 8) (halfIV-EEA3 count (bearer % 2 ^ 5) (direction % 2) ++ l)
+    before l h = (byte-lt count 0, (byte-lt count 1, (byte-lt count 2, (byte-lt count 3, (omega arith, (lit< tt, (lit< tt, (lit< tt, h))))))))
 
 cell-128 : (k d v : ℕ) → k < 2 ^ 8 → v < 2 ^ 8 → 0 < d → d < 2 ^ 15 → InRange (k ‖₁₅ d ‖₈ v)
 cell-128 k d v hk hv h0 hd = (omega arith, omega arith)

@@ -1,77 +1,96 @@
--- `mask`: the tests decide the outcome; past them enough bytes are masked, then what lies past the kept bits is cleared: the mode's mask.
-use mathlib.Core.Bool.{true}
-use mathlib.Core.Path.{_≡_, refl, sym, _∙_}
+-- `mask`: the tests decide the outcome; past them the mask is the mode's.
 use denote.Ref.{now}
+use mathlib.Core.Bool.{true}
+use mathlib.Core.Path.{_≡_, _∙_, ap, refl, sym}
+use native.Mathlib.Omega.{arith}
+use Prim.Native.Nat.{ℕ, _+_, _*_, _≤_}
 use lib.Dec.{leb}
 use lib.ListN.{length}
-use lib.Seq.{length-take-le}
-use Prim.Native.Nat.{_*_, _/_, _+_}
-use native.Mathlib.Omega.{arith}
-use borrow.Author.Needs.{needs}
-use borrow.Author.Tests.{leb-true, not-true, not-false}
-use Rattle.standard.specs.States.{limit}
+use borrow.Author.Tests.{leb-true, not-false, not-true}
+use Rattle.standard.proofs.Held.{Ready}
+use Rattle.standard.specs.Generator.{wordAt}
+use Rattle.standard.specs.Refusals.{accepted, stateTest}
+use Rattle.standard.specs.States.{generatorFormed, limit, moved}
 use Rattle.zuc.proofs.Turning.{formed-ready}
-use Rattle.mask.specs.Inner.{Enough}
-use Rattle.mask.proofs.Clear.{clear-masked}
-use Rattle.mask.proofs.Outcomes.{bad-bits, too-many, accepted}
+use Rattle.zuc.specs.Reading.{countedOf, heldOf}
+use Rattle.mask.specs.Modes.{modeMask, modeWords}
+use Rattle.mask.specs.Outcome.{Outcome, drawn, maskTested, refused}
+use Rattle.mask.proofs.Outcomes.{Call, bad-bits, bad-first, done, mode-mask, too-many}
+use borrow.Author.Needs.{needs}
 use Rattle.mask.proofs.mask.Statement.{statement}
 use Rattle.mask.proofs.mask.Tie as tie
 
--- what is known past the tests
-fits : (i : tie.Else1) → leb (i .before .before .before .args .bits) (length (now (i .before .before .before .args .buf)) * 8) ≡ true
-fits i = sym (i .before .bits-fit .ensures) ∙ not-false _ (i .if1 .left)
+abbrev call : tie.Start → Call Outcome
+call s =
+    let a = s .args in
+    let g = countedOf (a .state) in
+    let n = modeWords (a .clean) (a .bits) (now (a .buf)) in
+    record {
+      first = stateTest (generatorFormed g);
+      L = a .bits;
+      buffer = now (a .buf);
+      count = g .count;
+      words = n;
+      refused = refused g (now (a .buf));
+      answer = drawn n g (modeMask (a .clean) (wordAt (g .held .meaning)) (a .bits) (now (a .buf)));
+    }
 
-enough : (i : tie.Else1)
-    → let a = i .before .before .before .args in
-    Enough (length (now (a .buf))) (a .bits / 8 * 8 + a .kept) (a .to) (a .drawn)
-enough i = let s = i .before .before .before in s .pre .1 .1 (leb-true _ _ (fits i))
+-- what is known past each test
+module _ (i : tie.Else1) where
+  formed : generatorFormed (countedOf (i .before .before .before .args .state)) ≡ true
+  formed = sym (i .before .is-formed .ensures) ∙ not-false _ (i .if1 .left)
+
+  ready : Ready (heldOf (i .before .before .before .args .state .z)) × (i .before .before .before .args .state .count ≤ limit)
+  ready = formed-ready _ (search needs) formed
+
+fits : (r : tie.After-reach-of) → leb (r .before .before .before .before .before .before .args .bits) (length (now (r .before .before .before .before .before .before .args .buf)) * 8) ≡ true
+fits r = sym (r .before .before .bits-fit .ensures) ∙ not-false _ (r .before .if2 .left)
+
+left : (i : tie.Else3) → leb (i .before .before .before .before .before .before .before .before .args .state .count + i .before .before .reach-of .result .drawn) limit ≡ true
+left i = sym (i .before .has-left .ensures) ∙ not-false _ (i .if3 .left)
 
 returns : tie.Need-returns
-returns c = bad-bits _ _ _ _ _ (c .before .before .before .pre .0) (sym (c .before .bits-fit .ensures) ∙ not-true _ (c .if1 .taken))
-
-has-left-requires : tie.Need-has-left-requires
-has-left-requires c κs = formed-ready _ (search needs) (c .before .before .before .pre .0) .1
+unfolding maskTested
+returns c = bad-first (call (c .before .before .before)) (sym (c .before .is-formed .ensures) ∙ not-true _ (c .if1 .taken))
 
 returns-2 : tie.Need-returns-2
-returns-2 c =
-    let t = c .before .before in
-    too-many _ _ _ _ _ (t .before .before .before .pre .0) (fits t) (sym (c .before .has-left .ensures) ∙ not-true _ (c .if2 .taken))
+unfolding maskTested
+returns-2 c = bad-bits (call (c .before .before .before .before .before)) (formed (c .before .before)) (sym (c .before .bits-fit .ensures) ∙ not-true _ (c .if2 .taken))
 
-relend : tie.Need-slice-relend-prefix-mask-all
-relend c = enough (c .before .before .before .before .before .before) .inside
-
-part-length : tie.Need-slice-aggregate-mask-all
-part-length c = sym (length-take-le _ _ (relend (c .before)))
-
-mask-all-requires : tie.Need-mask-all-requires
-mask-all-requires c κs =
-    let t = c .before .before .before .before .before .before .before in
-    let e = enough t in
-    let s = t .before .before .before in
-    let n = length-take-le (s .args .to) (now (s .args .buf)) (e .inside) in (
-      c .before .before .before .before .s0 .ensures,
-      (c .before .before .before .s1 .ensures, (formed-ready _ (search needs) (s .pre .0) .0, (omega (arith, n, e .masking), omega (arith, n, e .drawn)))),
-    )
-
-add-count : tie.Need-add-t12
-add-count c =
-    let passed = c .before .before .before .before .before .before .before .before .before .before .before .before in
-    let left = passed .before in
-    let a = left .before .before .before .before .args in
-    omega (arith, leb-true (a .start .count + a .drawn) limit (sym (left .has-left .ensures) ∙ not-false _ (passed .if2 .left)))
+has-left-requires : tie.Need-has-left-requires
+has-left-requires c κs = ready (c .before .before .before) .1
 
 returns-3 : tie.Need-returns-3
+unfolding maskTested
 returns-3 c =
-    let m = c .before .before .before .before .before .before in
-    let passed = m .before .before .before .before .before .before in
-    let left = passed .before in
-    let t = left .before in
-    let s = t .before .before .before in
-    let a = s .args in
-    accepted _ _ _ _ _ (s .pre .0) (fits t) (sym (left .has-left .ensures) ∙ not-false _ (passed .if2 .left)) refl refl (m .mask-all .ensures .0)
-    (c .before .before .keep-bits .ensures ∙ clear-masked _ (now (a .buf)) _ (a .to) _ (λ i. t .before .before .slice-known .given i .fits) (enough t .inside) (enough t .reached) (m .mask-all .ensures .1))
+    let r = c .before .before in
+    too-many (call (r .before .before .before .before .before .before)) (formed (r .before .before .before)) (fits r) (r .reach-of .ensures .words) (sym (c .before .has-left .ensures) ∙ not-true _ (c .if3 .taken))
+
+mask-from-requires : tie.Need-mask-from-requires
+mask-from-requires c κs =
+    let r = c .before .before .before in
+    let held = ready (r .before .before .before) .0 in
+    ((held .cells, held .start), r .reach-of .ensures .enough (leb-true _ _ (fits r)))
+
+add-t12 : tie.Need-add-t12
+add-t12 c =
+    let r = c .before .before .before .before .before .before in
+    let a = r .before .before .before .before .before .before .args in
+    omega (arith, leb-true (a .state .count + r .reach-of .result .drawn) limit (left (c .before .before .before .before)))
+
+returns-4 : tie.Need-returns-4
+unfolding maskTested
+returns-4 c =
+    let r = c .before .before .before .before .before .before in
+    let a = r .before .before .before .before .before .before .args in
+    let reaches = r .reach-of .ensures in
+    let m = c .before .before .mask-from .ensures in
+    let state = m .0 refl ∙ ap (λ (n : ℕ). moved n (heldOf (a .state .z))) (reaches .words) in
+    let masked = m .1 ∙ mode-mask (a .clean) _ (a .bits) (now (a .buf)) (reaches .end) in
+    done (call (r .before .before .before .before .before .before)) (formed (r .before .before .before)) (fits r) (reaches .words) (left (c .before .before .before .before))
+    (λ i. record { number = accepted; count = reaches .words i; state = record { held = state i; count = a .state .count + reaches .words i }; buffer = masked i })
 
 pub mask-spec : {M : Type 1} → statement M
 mask-spec =
     tie.close
-    (tie.spec (λ c κs. search needs) returns has-left-requires returns-2 (λ c κs. search needs) (λ c κs. search needs) relend part-length mask-all-requires (λ c κs. search needs) add-count (λ c. search needs) returns-3)
+    (tie.spec (λ c κs. search needs) returns (λ c κs. search needs) returns-2 (λ c κs. search needs) has-left-requires returns-3 mask-from-requires add-t12 (λ c. search needs) returns-4)
