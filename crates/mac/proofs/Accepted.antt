@@ -55,13 +55,7 @@ module _ (w : ℕ) (k iv : List ℕ) where
       (lit< tt, (lit< tt, (lit< tt, tt))) e
       .0)
 
--- ZUC-128 and EIA3 are never refused for a width, and ZUC-256 never for a field
-pub no-width-128 : (k iv : List ℕ) → start₁₂₈ k iv .number ≡ badWidth → ⊥
-unfolding start₁₂₈
-no-width-128 k iv =
-    never-told (λ (o : StartOutcome). o .number) refusedStart (λ n. refl) (acceptedStart (load₁₂₈ k iv)) badWidth (λ (e : accepted ≡ badWidth). omega arith)
-    (keyTest 16 k ∷ ivTest 16 iv ∷ []) (λ (e : badKey ≡ badWidth). omega arith, (λ (e : badIV ≡ badWidth). omega arith, tt))
-
+-- ZUC-256 is never refused for a field
 pub no-field-256 : (w : ℕ) (k iv : List ℕ) → startTag₂₅₆ w k iv .number ≡ badField → ⊥
 unfolding startTag₂₅₆
 no-field-256 w k iv =

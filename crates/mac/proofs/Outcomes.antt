@@ -9,10 +9,10 @@ use lib.Dec.{eqb, leb}
 use lib.ListN.{length}
 use borrow.Author.Tests.{eqb-true, leb-true, ne-eqb}
 use Rattle.standard.specs.Generator.{State, keystream, started}
-use Rattle.standard.specs.Integrity.{IV-EIA3, drawnAfter-ZUC256, drawnByTag-EIA3, drawnByTag-ZUC256, tag-EIA3, tag-ZUC256}
+use Rattle.standard.specs.Integrity.{IV-EIA3, drawnAfter-ZUC256, drawnByTag-ZUC256, tag-EIA3, tag-ZUC256}
 use Rattle.standard.specs.Loading.{load₁₂₈, load₂₅₆, rowOf}
 use Rattle.standard.specs.Notation.{_⟨_⟩}
-use Rattle.standard.specs.Refusals.{badBits, badField, badKey, badState, badWidth, bitsTest, ivTest, keyTest, limitTest, spent, tested, widthTest}
+use Rattle.standard.specs.Refusals.{badBits, badField, badKey, badState, bitsTest, ivTest, keyTest, limitTest, spent, tested, widthTest}
 use Rattle.standard.specs.States.{Counted, Stored, formed, formed-128, fromStart, fromZero, limit, tagFormed, zeroStored}
 use Rattle.standard.proofs.Generator.{stream-is}
 use Rattle.standard.proofs.Table.{and-left, and-right}
@@ -30,7 +30,7 @@ use Rattle.mac_registers.specs.Tagging.{begun-EIA3, begun-ZUC256, closed-EIA3, 
 use Rattle.mac_registers.proofs.Packed.{width-is, width-whole}
 use Rattle.mac_tagging.proofs.Rule.{rule-EIA3, rule-ZUC256}
 use Rattle.mac.specs.Calls.{Outcome, closing, noWords, onceOutcome-128, onceOutcome-256, onceOutcome-EIA3, refusedClosing, refusedOnce, refusedTag, startOutcome-128, startOutcome-256, startOutcome-EIA3}
-use Rattle.mac.specs.Inner.{begun-128, begun-256, once-from-128, once-from-256, passedUp}
+use Rattle.mac.specs.Inner.{begun-128, begun-256, once-from-256, passedUp}
 
 -- an answer that a `match` found to be another than `Started`
 abbrev Refused : StartAnswer → Type 0
@@ -60,14 +60,7 @@ module _ (o : StartOutcome) (r : Counted Stored) where
       let k = above a h in
       rw (e, k .1, ne-eqb (suc (k .0)) 0 (λ q. omega arith)) (ap (λ (x : Counted Stored). record { number = suc (k .0); state = x }) f)
 
--- an answer that is none of those with arms of their own, and not of a number that its call never gives: of ZUC-128 or EIA3, and of ZUC-256
-pub key-refused : (a : StartAnswer) → OneOf (1 ∷ 2 ∷ []) (tagOf the-type a) → (startNumber a ≡ badWidth → ⊥) → startNumber a ≡ badKey
-key-refused Started h w = absurd (⊎-elim (λ (e : 0 ≡ 1). omega arith) (λ (e : 0 ≡ 2). omega arith) h)
-key-refused BadWidth h w = absurd (w refl)
-key-refused BadKey h w = refl
-key-refused BadIv h w = absurd (⊎-elim (λ (e : 3 ≡ 1). omega arith) (λ (e : 3 ≡ 2). omega arith) h)
-key-refused BadField h w = absurd (⊎-elim (λ (e : 4 ≡ 1). omega arith) (λ (e : 4 ≡ 2). omega arith) h)
-
+-- an answer of ZUC-256 that is none of those with arms of their own, and not of a number that its call never gives
 pub key-refused-256 : (a : StartAnswer) → OneOf (2 ∷ 4 ∷ []) (tagOf the-type a) → (startNumber a ≡ badField → ⊥) → startNumber a ≡ badKey
 key-refused-256 Started h f = absurd (⊎-elim (λ (e : 0 ≡ 2). omega arith) (λ (e : 0 ≡ 4). omega arith) h)
 key-refused-256 BadWidth h f = absurd (⊎-elim (λ (e : 1 ≡ 2). omega arith) (λ (e : 1 ≡ 4). omega arith) h)
@@ -113,13 +106,6 @@ module _ (key iv : List ℕ) where
   pub begun-128-is : begun-128 (start₁₂₈ key iv) ≡ startOutcome-128 key iv
   unfolding begun-128 start₁₂₈ startOutcome-128 tested
   begun-128-is = tested-map begun-128 (keyTest 16 key ∷ ivTest 16 iv ∷ []) refusedStart (acceptedStart (load₁₂₈ key iv))
-
-  pub once-128-is : (m : List ℕ) (l : ℕ) → once-from-128 (start₁₂₈ key iv) m l ≡ onceOutcome-128 key iv m l
-  unfolding once-from-128 start₁₂₈ onceOutcome-128 tested
-  once-128-is m l =
-      tested-map (λ o. once-from-128 o m l) (keyTest 16 key ∷ ivTest 16 iv ∷ []) refusedStart (acceptedStart (load₁₂₈ key iv))
-      ∙ tested-when (keyTest 16 key ∷ ivTest 16 iv ∷ bitsTest l m ∷ limitTest 0 (drawnByTag-EIA3 l) ∷ []) (refusedOnce 0) _ _
-      (λ all. ap (λ (x : ℕ). record { number = 0; tag = x }) (once-EIA3 (load₁₂₈ key iv) m l (leb-true l (length m * 8) (all .1 .1 .0))))
 
   module _ (w : ℕ) where
     pub begun-256-is : begun-256 w (startTag₂₅₆ w key iv) ≡ startOutcome-256 w key iv

@@ -3,14 +3,14 @@ use mathlib.Core.List.{List, [], _∷_}
 use mathlib.Core.Path.{_≡_}
 use Prim.Native.Nat.{ℕ, _*_, _≤_}
 use lib.Dec.{eqb}
-use Rattle.standard.specs.Integrity.{drawnAfter-EIA3, drawnAfter-ZUC256, drawnByTag-EIA3, drawnByTag-ZUC256}
+use Rattle.standard.specs.Integrity.{drawnAfter-EIA3, drawnAfter-ZUC256, drawnByTag-ZUC256}
 use Rattle.standard.specs.Refusals.{Test, accepted, bitsTest, limitTest, tested}
 use Rattle.standard.specs.States.{Counted, Stored, limit}
 use Rattle.standard.proofs.Held.{Ready}
 use Rattle.keystream.specs.Starts.{StartOutcome}
 use Rattle.mac_registers.specs.Inner.{Holds}
 use Rattle.mac_registers.specs.Stored.{packed, tagWords}
-use Rattle.mac_registers.specs.Tagging.{begun-EIA3, begun-ZUC256, closed-EIA3, closed-ZUC256}
+use Rattle.mac_registers.specs.Tagging.{begun-EIA3, begun-ZUC256, closed-ZUC256}
 use Rattle.mac.specs.Calls.{Once, Outcome, noWords, refusedOnce, refusedTag}
 
 -- a tag state that holds a tag in the making, within the limit
@@ -35,11 +35,6 @@ begun-256 width o =
     (record { number = accepted; state = record { held = packed width (begun-ZUC256 (width * 8) (o .state .held)); count = drawnAfter-ZUC256 (width * 8) 0 } })
 
 -- a one-shot over a started generator
-unfoldable pub once-from-128 : StartOutcome → List ℕ → ℕ → Once ℕ
-once-from-128 o message l =
-    tested (passedUp o ∷ bitsTest l message ∷ limitTest 0 (drawnByTag-EIA3 l) ∷ []) (refusedOnce 0)
-    (record { number = accepted; tag = closed-EIA3 (begun-EIA3 (o .state .held)) message l })
-
 unfoldable pub once-from-256 : ℕ → StartOutcome → List ℕ → ℕ → Once (List ℕ)
 once-from-256 width o message l =
     tested (passedUp o ∷ bitsTest l message ∷ limitTest 0 (drawnByTag-ZUC256 (width * 8) l) ∷ []) (refusedOnce noWords)

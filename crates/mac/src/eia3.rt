@@ -6,7 +6,6 @@ use super::Once128;
 use super::Start128;
 use super::begin_from;
 use super::refused_128;
-use super::tag_from;
 use keystream::StartAnswer;
 use words::byte_of;
 use words::fields_fit;
@@ -74,7 +73,7 @@ pub fn compute(
     ensures { λ r. ⌜ onceTold-128 r ≡ onceOutcome-EIA3 count bearer direction (now (key .entry)) (now (message .entry)) l ⌝ }
 {
     let v = iv(count, bearer, direction);
-    tag_from(keystream::zuc128::new(key, &v), message, l)
+    super::zuc128::compute(key, &v, message, l)
 }
 
 // The same of a bearer and a direction as given: BadKey, BadField, BadBits, Spent, in this order.

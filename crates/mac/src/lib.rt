@@ -2,24 +2,18 @@
 ghost use mathlib.Core.Bool.{true};
 ghost use mathlib.Core.Path.{_≡_};
 ghost use Rattle.keystream.specs.Starts.{startTold};
-ghost use Rattle.mac.specs.Calls.{onceTold-128, refusedUpdate, startTold-128, updateNumber, updateOutcome, updateTold};
-ghost use Rattle.mac.specs.Inner.{Live, Within, begun-128, once-from-128};
+ghost use Rattle.mac.specs.Calls.{refusedUpdate, startTold-128, updateNumber, updateOutcome, updateTold};
+ghost use Rattle.mac.specs.Inner.{Live, Within, begun-128};
 ghost use Rattle.mac.specs.Reading.{taggedOf, taggedOf-128};
-ghost use Rattle.standard.specs.Refusals.{badWidth};
 ghost use Rattle.standard.specs.States.{formed, formed-128, fromStart, tagFormed, zeroStored};
 use keystream::Start;
 use keystream::StartAnswer;
 use mac_registers::TagState;
 use mac_registers::forms::is_formed;
 use mac_registers::forms::zero_state;
-use mac_tagging::closing::close_128;
-use mac_tagging::updates::begin_128;
+use mac_tagging::calls::start_128;
 use words::LIMIT;
-use words::bits_fit;
 use words::has_left;
-use zuc::boxes::s0;
-use zuc::boxes::s1;
-use zuc_turn::raised;
 
 pub mod eia3;
 pub mod zuc128;
@@ -163,9 +157,7 @@ fn update_state(ok: bool, state: TagState, count: usize, message: &[u8]) -> Upda
     if !has_left(count, drawn) {
         return refused_update(UpdateAnswer::Spent, state, count);
     }
-    let high = raised();
-    let low = s1();
-    let next = mac_tagging::updates::update(&high, &low, state, message);
+    let next = mac_tagging::calls::update(state, message);
     Update {
         answer: UpdateAnswer::Done,
         state: next,
@@ -192,40 +184,12 @@ fn begin_from(start: Start) -> Start128
     let g = start.state.z;
     match answer {
         StartAnswer::Started => {
-            let t0 = s0();
-            let t1 = s1();
-            let state = begin_128(&t0, &t1, g);
+            let state = start_128(g);
             Start128 {
                 answer: StartAnswer::Started,
                 mac: Mac128 { state, count: 2 },
             }
         }
         _ => refused_128(answer),
-    }
-}
-
-// A tag at once from a start of the keystream, of ZUC-128 or of EIA3: neither is ever refused for a width.
-fn tag_from(start: Start, message: &[u8], l: usize) -> Once128
-    requires { ⌜ Live (startTold start) ⌝ ∗ ⌜ (startTold start .number ≡ badWidth → ⊥) ⌝ }
-    ensures { λ r. ⌜ onceTold-128 r ≡ once-from-128 (startTold start) (now (message .entry)) l ⌝ }
-{
-    let answer = start.answer;
-    let g = start.state.z;
-    match answer {
-        StartAnswer::Started => {
-            if !bits_fit(l, message.len()) {
-                return Once128::BadBits;
-            }
-            if !has_left(0, mac_counts::by_tag_128(l)) {
-                return Once128::Spent;
-            }
-            let t0 = s0();
-            let t1 = s1();
-            let state = begin_128(&t0, &t1, g);
-            Once128::Tag(close_128(&t0, &t1, state, message, l))
-        }
-        StartAnswer::BadIv => Once128::BadIv,
-        StartAnswer::BadField => Once128::BadField,
-        _ => Once128::BadKey,
     }
 }

@@ -11,14 +11,12 @@ use super::Tag128;
 use super::Update128;
 use super::begin_from;
 use super::is_formed_128;
-use super::tag_from;
 use super::update_state;
 use mac_registers::forms::zero_state;
-use mac_tagging::closing::close_128;
+use mac_tagging::calls::finish_128;
+use mac_tagging::calls::once_128;
 use words::bits_fit;
 use words::has_left;
-use zuc::boxes::s0;
-use zuc::boxes::s1;
 
 // A tag state, or a refusal: BadKey for a key, BadIv for an IV that is not 16 bytes.
 pub fn new(key: &[u8], iv: &[u8]) -> Start128
@@ -68,9 +66,7 @@ pub fn finish(mac: Mac128, tail: &[u8], l: usize) -> Finish128
             mac,
         };
     }
-    let t0 = s0();
-    let t1 = s1();
-    let tag = close_128(&t0, &t1, s, tail, l);
+    let tag = finish_128(s, tail, l);
     let zero = zero_state();
     Finish128 {
         answer: Tag128::Tag(tag),
@@ -85,5 +81,17 @@ pub fn finish(mac: Mac128, tail: &[u8], l: usize) -> Finish128
 pub fn compute(key: &[u8], iv: &[u8], message: &[u8], l: usize) -> Once128
     ensures { λ r. ⌜ onceTold-128 r ≡ onceOutcome-128 (now (key .entry)) (now (iv .entry)) (now (message .entry)) l ⌝ }
 {
-    tag_from(keystream::zuc128::new(key, iv), message, l)
+    if key.len() != 16 {
+        return Once128::BadKey;
+    }
+    if iv.len() != 16 {
+        return Once128::BadIv;
+    }
+    if !bits_fit(l, message.len()) {
+        return Once128::BadBits;
+    }
+    if !has_left(0, mac_counts::by_tag_128(l)) {
+        return Once128::Spent;
+    }
+    Once128::Tag(once_128(zuc_loading::zuc128::load(key, iv), message, l))
 }

@@ -13,13 +13,11 @@ use super::is_formed_256;
 use super::update_state;
 use keystream::StartAnswer;
 use mac_registers::forms::zero_state;
-use mac_tagging::closing::close_256;
-use mac_tagging::updates::begin_256;
+use mac_tagging::calls::finish_256;
+use mac_tagging::calls::once_256;
+use mac_tagging::calls::start_256;
 use words::bits_fit;
 use words::has_left;
-use zuc::boxes::s0;
-use zuc::boxes::s1;
-use zuc_turn::raised;
 
 fn refused(answer: StartAnswer) -> Start256
     ensures { λ r. ⌜ (r .answer ≡ answer) × (taggedOf-256 (r .mac) ≡ fromStart zeroStored) ⌝ }
@@ -41,9 +39,7 @@ pub fn new(width: usize, key: &[u8], iv: &[u8]) -> Start256
     let g = start.state.z;
     match answer {
         StartAnswer::Started => {
-            let t0 = s0();
-            let t1 = s1();
-            let state = begin_256(&t0, &t1, width, g);
+            let state = start_256(width, g);
             Start256 {
                 answer: StartAnswer::Started,
                 mac: Mac256 {
@@ -97,9 +93,7 @@ pub fn finish(mac: Mac256, tail: &[u8], l: usize) -> Finish256
             mac,
         };
     }
-    let high = raised();
-    let low = s1();
-    let tag = close_256(&high, &low, s, tail, l);
+    let tag = finish_256(s, tail, l);
     let zero = zero_state();
     Finish256 {
         answer: Tag256::Tag(tag[0], tag[1]),
@@ -125,11 +119,7 @@ pub fn compute(width: usize, key: &[u8], iv: &[u8], message: &[u8], l: usize) ->
             if !has_left(0, mac_counts::by_tag_256(width, l)) {
                 return Once256::Spent;
             }
-            let t0 = s0();
-            let t1 = s1();
-            let high = raised();
-            let state = begin_256(&t0, &t1, width, g);
-            let tag = close_256(&high, &t1, state, message, l);
+            let tag = once_256(width, g, message, l);
             Once256::Tag(tag[0], tag[1])
         }
         StartAnswer::BadWidth => Once256::BadWidth,

@@ -7,44 +7,34 @@ use lib.ListN.{length, replicate, take}
 use Rattle.standard.specs.Notation.{_⊕_}
 use Rattle.standard.specs.Bits.{M, bitOf, window, z}
 use Rattle.standard.specs.Generator.{wordAt}
-use Rattle.standard.specs.States.{Held, moved}
+use Rattle.standard.specs.States.{moved}
 use Rattle.standard.specs.Integrity.{T}
-use Rattle.standard.proofs.Window.{window-lt}
 use Rattle.mac_registers.specs.Stored.{keyOf, keyWords, packed, tagOf, tagWords, taggingOf}
-use Rattle.mac_registers.specs.Inner.{Holds, Width, Words, fresh}
+use Rattle.mac_registers.specs.Inner.{Holds, Width}
 use Rattle.standard.specs.States.{Stored}
 use Rattle.mac_registers.specs.Tagging.{fed, updated}
 use Rattle.mac_registers.proofs.Cutting.{updated-block}
-use Rattle.mac_registers.proofs.Message.{z-lt}
 use Rattle.mac_registers.proofs.Packed.{tag-back, width-most}
-
--- fresh words as a number
-module _ {w : ℕ} (v : Width w) (σ : Held) where
-  pub fresh-back : tagOf w (fresh w σ .words) ≡ window (z (wordAt (σ .meaning))) 0 (w * 8)
-  unfolding fresh
-  fresh-back = tag-back v (window (z (wordAt (σ .meaning))) 0 (w * 8))
-
-  pub fresh-lt : (f : Words) → f ≡ fresh w σ → tagOf w (f .words) < 2 ^ (w * 8)
-  fresh-lt f e = rw (e, fresh-back) (window-lt (z (wordAt (σ .meaning))) (z-lt (wordAt (σ .meaning))) 0 (w * 8))
 
 -- as many words as a width has
 pub quarter : (w : ℕ) → w / 4 ≡ w * 8 / 32
 quarter w = omega arith
 
 -- a block
-pub fed-is : (s : Stored) → Width (s .width) → (block sum : List ℕ) (f : Words) (key : List ℕ)
+pub fed-is : (s : Stored) → Width (s .width) → (block sum f key : List ℕ)
     → sum ≡ tagWords (s .width) (tagOf (s .width) (s .tag) ⊕ T (s .width * 8) (bitOf (s .width * 8 + s .width * 8) (keyOf (s .width) (s .key))) 0 (M block) (s .width * 8))
-    → f ≡ fresh (s .width) (s .generator)
-    → key ≡ keyWords (s .width) (keyOf (s .width) (s .key) * 2 ^ (s .width * 8) % 2 ^ (s .width * 8 + s .width * 8) + tagOf (s .width) (f .words))
-    → record { generator = f .state; key = key; tag = sum; rem = replicate 16 0; cnt = 0; width = s .width } ≡ packed (s .width) (fed (s .width * 8) (taggingOf s) block)
-unfolding packed fed taggingOf fresh
+    → f ≡ tagWords (s .width) (window (z (wordAt (s .generator .meaning))) 0 (s .width * 8))
+    → key ≡ keyWords (s .width) (keyOf (s .width) (s .key) * 2 ^ (s .width * 8) % 2 ^ (s .width * 8 + s .width * 8) + tagOf (s .width) f)
+    → record { generator = moved (s .width / 4) (s .generator); key = key; tag = sum; rem = replicate 16 0; cnt = 0; width = s .width }
+    ≡ packed (s .width) (fed (s .width * 8) (taggingOf s) block)
+unfolding packed fed taggingOf
 fed-is s v block sum f key es ef ek =
     λ i. record {
-      generator = (ap (λ (x : Words). x .state) ef ∙ ap (λ (n : ℕ). moved n (s .generator)) (quarter (s .width))) i;
+      generator = moved (quarter (s .width) i) (s .generator);
       key =
           (ek
           ∙ ap (λ (x : ℕ). keyWords (s .width) (keyOf (s .width) (s .key) * 2 ^ (s .width * 8) % 2 ^ (s .width * 8 + s .width * 8) + x))
-          (ap (λ (x : Words). tagOf (s .width) (x .words)) ef ∙ fresh-back v (s .generator))) i;
+          (ap (tagOf (s .width)) ef ∙ tag-back v (window (z (wordAt (s .generator .meaning))) 0 (s .width * 8)))) i;
       tag = es i;
       rem = replicate 16 0;
       cnt = 0;

@@ -5,19 +5,16 @@ ghost use Prim.Native.Nat.{_%_, _≤_, _<_};
 ghost use Rattle.standard.specs.Boxes.{S₀-table, S₁-table};
 ghost use Rattle.zuc_turn.specs.InnerRun.{Laid, Low, raisedOf};
 ghost use Rattle.mac_registers.specs.InnerBlocks.{Blocks};
-ghost use Rattle.mac_registers.specs.Stored.{storedOf};
-ghost use Rattle.mac_registers.specs.Inner.{Holds};
+ghost use Rattle.mac_registers.specs.InnerOpen.{AtRest, Opened, storedAt};
 ghost use Rattle.mac_registers.specs.Tagging.{updated};
 ghost use Rattle.mac_narrow.specs.InnerNarrow.{Tagged, taggingAt};
 use mac_registers::Moved;
-use mac_registers::TagState;
+use mac_registers::Open;
 use mac_registers::sums::joined;
 use mac_registers::sums::sum_32;
 use zuc_bulk::index_after;
-use zuc_bulk::lay_state;
 use zuc_bulk::rest;
 use zuc_bulk::smaller;
-use zuc_bulk::state_of;
 use zuc_turn::Halves;
 use zuc_turn::turn;
 
@@ -66,39 +63,39 @@ fn words_32(
 pub fn blocks_32(
     high: &[u16; 256],
     low: &[u8; 256],
-    start: TagState,
+    run: &mut [u32],
+    pairs: &mut [u32],
+    start: Open,
     message: &[u8],
     from: usize,
 ) -> Moved
-    requires { ⌜ now high ≡ raisedOf S₀-table ⌝ ∗ ⌜ now low ≡ S₁-table ⌝ ∗ ⌜ Holds (storedOf start) ⌝ ∗ ⌜ (start .cnt ≡ 0) × (from ≤ length (now message)) ⌝ ∗ ⌜ start .width ≡ 4 ⌝ }
-    ensures { λ r. ⌜ Blocks (storedOf start) (now (message .entry)) from (storedOf (r .s)) (r .at) ⌝ }
+    requires { ⌜ now high ≡ raisedOf S₀-table ⌝ ∗ ⌜ now low ≡ S₁-table ⌝ ∗ ⌜ Opened (now run) (now pairs) start ⌝ ∗ ⌜ (start .cnt ≡ 0) × (from ≤ length (now message)) ⌝ ∗ ⌜ start .width ≡ 4 ⌝ }
+    ensures { λ r. ⌜ AtRest (now (run .exit)) (now (pairs .exit)) (r .o .h) × Blocks (storedAt (now (run .entry)) start) (now (message .entry)) from (storedAt (now (run .exit)) (r .o)) (r .at) ⌝ }
 {
-    let g = start.g;
+    let h = start.h;
     let key = start.key;
     let tag = start.tag;
-    let mut run = [0u32; 80];
-    let mut pairs = [0u32; 80];
-    let h = lay_state(g, &mut run, &mut pairs);
     let mut s = Narrow {
         h,
         key: key[0],
         tag: tag[0] as u32,
-        start: g.start,
+        start: start.start,
     };
     let mut i = from;
     while 4 <= message.len() - i {
         let e = i + smaller(256, (message.len() - i) / 4 * 4);
-        s = words_32(high, low, &mut run, &mut pairs, s, &message[i..e]);
+        s = words_32(high, low, run, pairs, s, &message[i..e]);
         i = e;
     }
     let last = s.h;
-    let next = TagState {
-        g: state_of(&run, last, s.start),
+    let next = Open {
+        h: last,
+        start: s.start,
         key: [s.key, 0, 0, 0],
         tag: [s.tag as u64, 0],
         rem: [0; 16],
         cnt: 0,
         width: 4,
     };
-    Moved { s: next, at: i }
+    Moved { o: next, at: i }
 }

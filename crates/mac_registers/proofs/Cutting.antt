@@ -1,6 +1,6 @@
 -- Updates: cutting does not matter, a byte waits or completes a block, a whole block is one feed; by induction on the bytes.
 use mathlib.Core.Path.{_≡_, refl, sym, ap, ap₂, _∙_}
-use mathlib.Core.List.{List, [], _∷_, _++_}
+use mathlib.Core.List.{List, [], _∷_, _++_, append-nil}
 use Prim.Native.Nat.{ℕ, suc, _+_, _*_, _-_, _<_, _≤_}
 use native.Mathlib.Omega.{arith}
 use lib.ListN.{drop, length, length-append, take}
@@ -60,3 +60,14 @@ updated-block t (b ∷ d ∷ m) st p e =
     ∙ updated-block t (d ∷ m) (record { generator = st .generator; key = st .key; tag = st .tag; waiting = st .waiting ++ (b ∷ []) })
     (omega arith) (omega (arith, length-append (st .waiting) (b ∷ [])))
     ∙ ap (fed t st) (append-snoc (st .waiting) b (d ∷ m))
+
+-- bytes that do not complete one
+pub updated-waits : (t : ℕ) (m : List ℕ) (st : Tagging) → length (st .waiting) * 8 + length m * 8 < t
+    → updated t st m ≡ record { generator = st .generator; key = st .key; tag = st .tag; waiting = st .waiting ++ m }
+unfolding updated
+updated-waits t [] st h = λ i. record { generator = st .generator; key = st .key; tag = st .tag; waiting = sym (append-nil (st .waiting)) i }
+updated-waits t (b ∷ m) st h =
+    ap (λ (x : Tagging). updated t x m) (absorbed-waits t st b (omega arith))
+    ∙ updated-waits t m (record { generator = st .generator; key = st .key; tag = st .tag; waiting = st .waiting ++ (b ∷ []) })
+    (omega (arith, length-append (st .waiting) (b ∷ [])))
+    ∙ ap (λ (l : List ℕ). record { generator = st .generator; key = st .key; tag = st .tag; waiting = l }) (append-snoc (st .waiting) b m)

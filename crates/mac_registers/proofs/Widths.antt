@@ -1,29 +1,24 @@
--- Each width's words: the key pair moved on, the tag with a block's sum, and fresh words, as the code has them and as numbers.
-use mathlib.Core.Path.{_≡_, refl, sym, ap, ap₂, _∙_, subst}
+-- Each width's words: the key pair moved on and the tag with a block's sum, as the code has them and as numbers.
+use mathlib.Core.Path.{_≡_, refl, sym, ap, ap₂, _∙_}
 use mathlib.Core.List.{List, [], _∷_}
 use mathlib.Core.Logic.{⊎-elim}
-use Prim.Native.Nat.{ℕ, _+_, _*_, _/_, _%_, _^_, _<_, _≤_}
+use Prim.Native.Nat.{ℕ, _+_, _*_, _/_, _%_, _^_, _<_}
 use native.Mathlib.Omega.{arith}
-use native.Mathlib.Nat.{lt-of-lt-of-le, mod-eq-of-lt, pow-le-pow-right, zero-add}
+use native.Mathlib.Nat.{zero-add}
 use lib.Arith.{digits-lt}
 use lib.Bits.{xor-block, xor-lt}
-use lib.Pow.{high, low, shr-lt}
+use lib.Pow.{high, low}
 use Rattle.standard.specs.Notation.{_⊕_, _⟨_⟩}
-use Rattle.standard.specs.Bits.{M, bitAt, bitOf, window, z}
-use Rattle.standard.specs.Generator.{wordAt}
-use Rattle.standard.specs.States.{Held, moved}
+use Rattle.standard.specs.Bits.{M, bitAt, bitOf, window}
 use Rattle.standard.specs.Integrity.{T}
-use Rattle.standard.proofs.Generator.{wordAt-lt}
 use Rattle.standard.proofs.Linear.{M-lt}
 use Rattle.standard.proofs.Register.{shl-keeps, sum-piece}
 use Rattle.standard.proofs.Sum.{sum-ext, sum-join}
-use Rattle.standard.proofs.Window.{bit-window, bitAt-lt, window-cell, window-cells, window-lt, window-split}
-use borrow.Author.Tests.{ne-eqb}
+use Rattle.standard.proofs.Window.{bit-window, bitAt-lt, window-cell, window-cells, window-split}
 use Rattle.mac_wide.specs.InnerRows.{streamOf}
-use Rattle.mac_registers.specs.InnerLookup.{between, summed}
+use Rattle.mac_registers.specs.InnerLookup.{summed}
 use Rattle.mac_registers.specs.Stored.{_‖₁₂₈_, _‖₆₄_, keyOf, keyWords, tagOf, tagWords}
-use Rattle.mac_registers.specs.Inner.{Width, fresh}
-use Rattle.mac_registers.proofs.Message.{z-lt}
+use Rattle.mac_registers.specs.Inner.{Width}
 
 -- a key pair moved up by half, in its halves
 moved-low : (t hi lo : ℕ) → lo < 2 ^ t → (hi * 2 ^ t + lo) * 2 ^ t % 2 ^ (t + t) ≡ lo * 2 ^ t
@@ -124,81 +119,6 @@ module _ (w : ℕ) (k t block : List ℕ) where
             ∙ sum-piece (bitAt 64 f) (bitAt-lt 64 f) (M block) 128 0 256 128 (omega arith)
             ∙ ap (λ (x : ℕ). T 128 (bitOf 256 x) 0 (M block) 128)
             (window-split (bitAt 64 f) 0 128 128 ∙ ap₂ _‖₁₂₈_ (pair-window f 0 (small 0) (small 1)) (pair-window f 2 (small 2) (small 3)))
-
--- a number in two words moved up by 32 bits, and a word after it
-shifted : (a b c : ℕ) → (a ‖₆₄ b) < 2 ^ 96 → b < 2 ^ 64 → between a b ‖₆₄ (b % 2 ^ 32 * 2 ^ 32 + c) ≡ (a ‖₆₄ b) * 2 ^ 32 + c
-shifted a b c small hb =
-    ap (λ (x : ℕ). (x * 2 ^ 32 + b / 2 ^ 32) * 2 ^ 64 + (b % 2 ^ 32 * 2 ^ 32 + c)) (mod-eq-of-lt high-small)
-    ∙ regroup (a * 2 ^ 32 + b / 2 ^ 32) (b % 2 ^ 32) c
-    ∙ ap (λ (x : ℕ). x * 2 ^ 32 + c) whole
-  where
-    high-small : a < 2 ^ 32
-    high-small = subst (λ (x : ℕ). x < 2 ^ 32) (high a 64 hb) (shr-lt 32 64 small)
-
-    whole : (a * 2 ^ 32 + b / 2 ^ 32) * 2 ^ 32 + b % 2 ^ 32 ≡ a ‖₆₄ b
-    whole = omega arith
-
-    regroup : (u v x : ℕ) → u * 2 ^ 64 + (v * 2 ^ 32 + x) ≡ (u * 2 ^ 32 + v) * 2 ^ 32 + x
-    regroup u v x = omega arith
-
--- fresh words: one more word in a number of 128 bits, and what the first w/4 words make
-module _ (g : Held) where
-  abbrev Z : ℕ → ℕ
-  Z = z (wordAt (g .meaning))
-
-  words-small : (hi lo j : ℕ) → hi ‖₆₄ lo ≡ window Z 0 (j * 32) → (hi ‖₆₄ lo) < 2 ^ (j * 32)
-  words-small hi lo j e = rw e (window-lt Z (z-lt (wordAt (g .meaning))) 0 (j * 32))
-
-  pub words-none : 0 ‖₆₄ 0 ≡ window Z 0 (0 * 32)
-  unfolding window
-  words-none = refl
-
-  pub words-more : (hi lo w j : ℕ) → j < 4 → lo < 2 ^ 64 → w ≡ wordAt (g .meaning) j → hi ‖₆₄ lo ≡ window Z 0 (j * 32)
-      → between hi lo ‖₆₄ (lo % 2 ^ 32 * 2 ^ 32 + w) ≡ window Z 0 ((j + 1) * 32)
-  unfolding z
-  words-more hi lo w j h hl ew e =
-      shifted hi lo w (lt-of-lt-of-le (words-small hi lo j e) (pow-le-pow-right {n = 2} (omega arith) most)) hl
-      ∙ ap₂ (λ (x y : ℕ). x * 2 ^ 32 + y) e (ew ∙ ap (wordAt (g .meaning)) (sym (zero-add j)))
-      ∙ sym (window-cells 32 (omega arith) (wordAt (g .meaning)) 0 j (wordAt-lt (g .meaning) (0 + j)))
-      ∙ ap (window Z 0) next
-    where
-      next : j * 32 + 32 ≡ (j + 1) * 32
-      next = omega arith
-
-      most : j * 32 ≤ 96
-      most = omega arith
-
-  module _ (w hi lo : ℕ) (state : Held) (es : state ≡ moved (w / 4) g) (e : hi ‖₆₄ lo ≡ window Z 0 (w / 4 * 32)) (hl : lo < 2 ^ 64) where
-    pub fresh-wide : w ≡ 16 → record { words = hi ∷ lo ∷ []; state = state } ≡ fresh w g
-    unfolding fresh
-    fresh-wide f =
-        λ i. record {
-          words = (sym (tag-words-16 hi lo hl) ∙ ap₂ tagWords (sym f) (e ∙ ap (window Z 0) bits)) i;
-          state = es i;
-        }
-      where
-        bits : w / 4 * 32 ≡ w * 8
-        bits = omega arith
-
-    pub fresh-narrow : Width w → (w ≡ 16 → ⊥) → record { words = lo ∷ 0 ∷ []; state = state } ≡ fresh w g
-    unfolding fresh tagWords
-    fresh-narrow v not =
-        λ i. record { words = (ap (λ (x : ℕ). x ∷ 0 ∷ []) (low-is ∙ e ∙ ap (window Z 0) bits) ∙ sym spelled) i; state = es i }
-      where
-        at-most : w / 4 * 32 ≤ 64
-        at-most = ⊎-elim (λ f. omega arith) (λ o. ⊎-elim (λ f. omega arith) (λ f. absurd (not f)) o) v
-
-        small : (hi ‖₆₄ lo) < 2 ^ 64
-        small = lt-of-lt-of-le (words-small hi lo (w / 4) e) (pow-le-pow-right {n = 2} (omega arith) at-most)
-
-        spelled : tagWords w (window Z 0 (w * 8)) ≡ window Z 0 (w * 8) ∷ 0 ∷ []
-        spelled = rw (ne-eqb w 16 not) refl
-
-        low-is : lo ≡ hi ‖₆₄ lo
-        low-is = omega (arith, small)
-
-        bits : w / 4 * 32 ≡ w * 8
-        bits = ⊎-elim (λ f. omega arith) (λ o. ⊎-elim (λ f. omega arith) (λ f. omega arith) o) v
 
 -- the third width, where the others are ruled out
 pub is-16 : (w : ℕ) → Width w → (w ≡ 4 → ⊥) → (w ≡ 8 → ⊥) → w ≡ 16

@@ -26,7 +26,3 @@ lookedUp table bits (suc k) = lookedUp table bits k ⊕ getD table (bits / 2 ^ (
 -- the two groups of a byte that has `at` message bits before it
 unfoldable pub byteLookedUp : List ℕ → ℕ → ℕ → ℕ
 byteLookedUp table b at = getD table (b / 16) 0 / 2 ^ (29 - at) % 2 ^ 32 ⊕ getD table (b % 16) 0 / 2 ^ (25 - at) % 2 ^ 32
-
--- the low half of x before the high half of y
-abbrev pub between : ℕ → ℕ → ℕ
-between x y = x % 2 ^ 32 * 2 ^ 32 + y / 2 ^ 32

@@ -3,3 +3,4 @@ pub mod Stored
 pub mod Inner
 pub mod InnerLookup
 pub mod InnerBlocks
+pub mod InnerOpen

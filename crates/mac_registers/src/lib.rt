@@ -1,22 +1,23 @@
 // The registers of a tag, for tags of 32, 64 and 128 bits.
 ghost use lib.ListN.{length};
 ghost use mathlib.Core.Path.{_≡_};
-ghost use Prim.Native.Nat.{_+_, _*_, _≤_, _<_, _^_, _%_};
+ghost use Prim.Native.Nat.{_+_, _*_, _/_, _%_, _^_, _≤_, _<_};
 ghost use Rattle.standard.specs.Bits.{M, bitOf, window};
-ghost use Rattle.standard.specs.Boxes.{S₀-table, S₁-table};
-ghost use Rattle.standard.proofs.Held.{Ready};
 ghost use Rattle.standard.specs.Integrity.{T};
 ghost use Rattle.standard.specs.Notation.{_⊕_};
-ghost use Rattle.zuc.specs.Reading.{heldOf};
-ghost use Rattle.mac_registers.specs.Stored.{keyOf, keyWords, tagOf, tagWords};
-ghost use Rattle.mac_registers.specs.Inner.{Width, fresh, wordsOf};
+ghost use Rattle.zuc_turn.specs.InnerRun.{Low};
+ghost use Rattle.mac_registers.specs.Stored.{keyOf, keyWords, storedOf, tagOf, tagWords};
+ghost use Rattle.mac_registers.specs.Inner.{Holds, Width, bitsOf};
+ghost use Rattle.mac_registers.specs.InnerOpen.{Stands, storedAt};
 use mac_wide::sum_64;
 use mac_wide::sum_128;
-use sums::across;
 use sums::joined;
 use sums::sum_32;
 use words::word_of;
 use zuc::Zuc;
+use zuc_bulk::lay_state;
+use zuc_bulk::state_of;
+use zuc_turn::Halves;
 
 pub mod forms;
 pub mod sums;
@@ -32,16 +33,62 @@ pub struct TagState {
     pub width: usize,
 }
 
-// A state, and the place in the message up to which it has taken the bytes in.
+// A tag in the making inside a call: as a TagState, but that its generator stands on a lent run, with the registers in halves.
+pub struct Open {
+    pub h: Halves,
+    pub start: usize,
+    pub key: [u64; 4],
+    pub tag: [u64; 2],
+    pub rem: [u8; 16],
+    pub cnt: usize,
+    pub width: usize,
+}
+
+// What is open, and the place in the message up to which it has taken the bytes in.
 pub struct Moved {
-    pub s: TagState,
+    pub o: Open,
     pub at: usize,
 }
 
-// As many keystream bits as a tag has, in the words of a tag, and the generator after them.
-pub struct Fresh {
-    pub words: [u64; 2],
-    pub next: Zuc,
+// A state with its cells laid on a run, once a call.
+pub fn lay(s: TagState, run: &mut [u32], pairs: &mut [u32]) -> Open
+    requires { ⌜ (length (now run) ≡ 80) × (length (now pairs) ≡ 80) ⌝ ∗ ⌜ Holds (storedOf s) ⌝ }
+    ensures { λ r. ⌜ Stands (now (run .exit)) (now (pairs .exit)) r (storedOf s) ⌝ }
+{
+    let g = s.g;
+    let key = s.key;
+    let tag = s.tag;
+    let rem = s.rem;
+    let h = lay_state(g, run, pairs);
+    Open {
+        h,
+        start: g.start,
+        key,
+        tag,
+        rem,
+        cnt: s.cnt,
+        width: s.width,
+    }
+}
+
+// The state, with its cells taken back from the run.
+pub fn taken(run: &[u32], o: Open) -> TagState
+    requires { ⌜ 16 ≤ length (now run) ⌝ ∗ ⌜ Low (o .h) ⌝ ∗ ⌜ o .start < 16 ⌝ }
+    ensures { λ r. ⌜ storedOf r ≡ storedAt (now (run .entry)) o ⌝ }
+{
+    let h = o.h;
+    let key = o.key;
+    let tag = o.tag;
+    let rem = o.rem;
+    let g = state_of(run, h, o.start);
+    TagState {
+        g,
+        key,
+        tag,
+        rem,
+        cnt: o.cnt,
+        width: o.width,
+    }
 }
 
 // Four bytes of a block as one word, highest first.
@@ -91,36 +138,28 @@ pub fn key_on(width: usize, key: [u64; 4], words: [u64; 2]) -> [u64; 4]
     }
 }
 
-// The next keystream bits, as many as a tag has.
-pub fn draw_words(t0: &[u8; 256], t1: &[u8; 256], width: usize, g: Zuc) -> Fresh
-    requires { ⌜ now t0 ≡ S₀-table ⌝ ∗ ⌜ now t1 ≡ S₁-table ⌝ ∗ ⌜ Ready (heldOf g) ⌝ ∗ ⌜ Width width ⌝ }
-    ensures { λ r. ⌜ wordsOf r ≡ fresh width (heldOf g) ⌝ }
+// The keystream bits of a tag's width out of words drawn before, in the words of a tag.
+pub fn fresh_at(width: usize, words: &[u32], at: usize) -> [u64; 2]
+    requires { ⌜ Width width ⌝ ∗ ⌜ at + width / 4 ≤ length (now words) ⌝ }
+    ensures { λ r. ⌜ r ≡ tagWords width (window (bitsOf (now (words .entry))) (at * 32) (width * 8)) ⌝ }
 {
-    let mut s = g.s;
-    let mut r1 = g.r1;
-    let mut r2 = g.r2;
-    let mut start = g.start;
-    let mut hi: u64 = 0;
-    let mut lo: u64 = 0;
-    let mut j: usize = 0;
-    while j < width / 4 {
-        let out = zuc::draw_at(t0, t1, &mut s, start, r1, r2);
-        hi = across(hi, lo);
-        lo = joined((lo % 0x1_0000_0000) as u32, out.w);
-        r1 = out.r1;
-        r2 = out.r2;
-        start = (start + 1) % 16;
-        j += 1;
+    match width {
+        4 => [words[at] as u64, 0],
+        8 => [joined(words[at], words[at + 1]), 0],
+        _ => [
+            joined(words[at], words[at + 1]),
+            joined(words[at + 2], words[at + 3]),
+        ],
     }
-    let next = Zuc { s, r1, r2, start };
-    if width == 16 {
-        return Fresh {
-            words: [hi, lo],
-            next,
-        };
-    }
-    Fresh {
-        words: [lo, 0],
-        next,
-    }
+}
+
+// A key pair out of words drawn before: its halves are moved in one after the other.
+pub fn key_at(width: usize, words: &[u32], at: usize) -> [u64; 4]
+    requires { ⌜ Width width ⌝ ∗ ⌜ at + width / 4 + width / 4 ≤ length (now words) ⌝ }
+    ensures { λ r. ⌜ r ≡ keyWords width (window (bitsOf (now (words .entry))) (at * 32) (width * 8 + width * 8)) ⌝ }
+{
+    let high = fresh_at(width, words, at);
+    let half = key_on(width, [0u64; 4], high);
+    let low = fresh_at(width, words, at + width / 4);
+    key_on(width, half, low)
 }

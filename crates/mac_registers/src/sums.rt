@@ -3,7 +3,7 @@ ghost use lib.ListN.{length};
 ghost use mathlib.Core.Path.{_≡_};
 ghost use Prim.Native.Nat.{_+_, _*_, _≤_, _^_};
 ghost use Rattle.standard.specs.Bits.{M, window};
-ghost use Rattle.mac_registers.specs.InnerLookup.{between, byteLookedUp, lookedUp, multiplesOf, summed};
+ghost use Rattle.mac_registers.specs.InnerLookup.{byteLookedUp, lookedUp, multiplesOf, summed};
 
 // The pair's multiples by each of sixteen numbers of four bits: the bit worth 8 is the first, so it stands for the window highest up.
 fn multiples(pair: u64) -> [u64; 16]
@@ -60,13 +60,6 @@ pub fn joined(hi: u32, lo: u32) -> u64
     ensures { λ r. ⌜ r ≡ hi * 2 ^ 32 + lo ⌝ }
 {
     ((hi as u64) << 32) + (lo as u64)
-}
-
-// The pair that lies across two words of the key: the low half of one, and the high half of the next carried in.
-pub fn across(x: u64, y: u64) -> u64
-    ensures { λ r. ⌜ r ≡ between x y ⌝ }
-{
-    joined((x % 0x1_0000_0000) as u32, (y >> 32) as u32)
 }
 
 pub fn sum_32(key: u64, block: &[u8], at: usize) -> u32

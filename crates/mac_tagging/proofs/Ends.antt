@@ -9,12 +9,10 @@ use Rattle.standard.specs.Bits.{M, bitOf, window}
 use Rattle.standard.specs.Integrity.{T}
 use Rattle.standard.proofs.Sum.{sum-lt}
 use Rattle.standard.proofs.Window.{bitOf-lt, window-lt}
-use Rattle.zuc.specs.Inner.{Draw}
 use Rattle.mac_registers.specs.Stored.{packed, tagWords, taggingOf}
 use Rattle.mac_registers.specs.Inner.{Good, Holds}
 use Rattle.standard.specs.States.{Stored}
 use Rattle.mac_registers.specs.Tagging.{Tagging, closed-EIA3, closed-ZUC256, ended, extraWord, lastTag, leftOver, updated}
-use Rattle.mac_tagging.specs.InnerSteps.{extraDraw}
 use Rattle.mac_registers.proofs.Packed.{at-packed, good-updated, held-as}
 use Rattle.mac_blocks.proofs.Moves.{cnt-is}
 
@@ -64,8 +62,8 @@ module _ {w : ℕ} {st : Tagging} (g : Good w st) (tail : List ℕ) (l : ℕ) (e
     unfolding packed
     width-four = ap (λ (y : Stored). y .width) up ∙ four
 
-    pub closes-128 : (d : Draw) → d ≡ extraDraw (taggingOf e) (e .cnt * 8 + l % 8) → x ⟨ 0 ⟩ ⊕ d .word ≡ closed-EIA3 st tail l
+    pub closes-128 : (word : ℕ) → word ≡ extraWord (taggingOf e) (e .cnt * 8 + l % 8) → x ⟨ 0 ⟩ ⊕ word ≡ closed-EIA3 st tail l
     unfolding closed-EIA3
-    closes-128 d f =
-        ap₂ bitXor tag-is (ap (λ (y : Draw). y .word) f ∙ at-end (λ a b n. extraWord b n))
+    closes-128 word f =
+        ap₂ bitXor tag-is (f ∙ at-end (λ a b n. extraWord b n))
         ∙ ap (λ (n : ℕ). closed-ZUC256 (n * 8) st tail l ⊕ extraWord (ended (n * 8) st tail l) (leftOver (ended (n * 8) st tail l) l)) four

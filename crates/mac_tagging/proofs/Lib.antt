@@ -4,3 +4,4 @@ pub mod Starts
 pub mod Bytes
 pub mod Last
 pub mod Ends
+pub mod Laid

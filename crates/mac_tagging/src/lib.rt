@@ -1,4 +1,5 @@
-// Tags in the making: starts, updates and closings.
+// Tags in the making: starts, updates and closings on a lent run, and the calls that lend it.
 
+pub mod calls;
 pub mod closing;
 pub mod updates;

@@ -10,19 +10,16 @@ use Rattle.mac.proofs.Outcomes.{refused-as, started-as}
 use Rattle.mac.proofs.begin_from.Statement.{statement}
 use Rattle.mac.proofs.begin_from.Tie as tie
 
-begin-128-requires : tie.Need-begin-128-requires
-begin-128-requires c κs =
-    let m = c .before .before .before .before in
-    let s = m .before .before .before in
-    (c .before .before .before .s0 .ensures, (c .before .before .s1 .ensures, s .pre (ap startNumber (m .enum-told .given .1))))
+start-128-requires : tie.Need-start-128-requires
+start-128-requires c κs = c .before .before .before .pre (ap startNumber (c .enum-told .given .1))
 
 returns : tie.Need-returns
 unfolding begun-128
 returns c =
-    let m = c .before .before .before .before .before in
+    let m = c .before in
     let s = m .before .before .before in
-    started-as (startTold (s .args .start)) (taggedOf (c .begin-128 .result) 2) _ (ap startNumber (m .enum-told .given .1))
-    (ap (λ (x : Stored). record { held = x; count = 2 }) (c .begin-128 .ensures))
+    started-as (startTold (s .args .start)) (taggedOf (c .start-128 .result) 2) _ (ap startNumber (m .enum-told .given .1))
+    (ap (λ (x : Stored). record { held = x; count = 2 }) (c .start-128 .ensures))
 
 returns-2 : tie.Need-returns-2
 unfolding begun-128
@@ -36,4 +33,4 @@ returns-2 c =
 pub begin-from-spec : {M : Type 1} → statement M
 begin-from-spec =
     tie.close
-    (tie.spec (λ c. search needs) (λ c κs. search needs) (λ c κs. search needs) begin-128-requires (λ c κs. search needs) returns returns-2)
+    (tie.spec (λ c. search needs) start-128-requires (λ c κs. search needs) returns returns-2)

@@ -45,20 +45,18 @@ returns-2 c =
     c .refused-update2 .ensures ∙ rw (not-false (i .before .before .args .ok) (i .if1 .left), sym (left h) ∙ not-true (h .has-left .result) (t .if2 .taken)) refl
 
 update-requires : tie.Need-update-requires
-update-requires c κs =
-    let i = c .before .before .before .before .before .before .before in
-    (c .before .before .before .raised .ensures, (c .before .before .s1 .ensures, within i .0))
+update-requires c κs = within (c .before .before .before) .0
 
-add-count : tie.Need-add-t11
+add-count : tie.Need-add-t9
 add-count c =
-    let passed = c .before .before .before .before .before in
+    let passed = c .before in
     let h = passed .before in
     omega (arith, leb-true (h .before .before .before .before .args .count + h .before .to-update .result) limit (sym (h .has-left .ensures) ∙ not-false (h .has-left .result) (passed .if2 .left)))
 
 returns-3 : tie.Need-returns-3
 unfolding updateOutcome tested
 returns-3 c =
-    let passed = c .before .before .before .before .before in
+    let passed = c .before in
     let h = passed .before in
     let i = h .before .before in
     let a = i .before .before .args in
@@ -68,4 +66,4 @@ returns-3 c =
 pub update-state-spec : {M : Type 1} → statement M
 update-state-spec =
     tie.close
-    (tie.spec (λ c κs. search needs) returns to-update-requires has-left-requires (λ c κs. search needs) returns-2 (λ c κs. search needs) (λ c κs. search needs) update-requires add-count returns-3)
+    (tie.spec (λ c κs. search needs) returns to-update-requires has-left-requires (λ c κs. search needs) returns-2 update-requires add-count returns-3)

@@ -13,8 +13,9 @@ use Rattle.standard.specs.Notation.{listed}
 use Rattle.mac_registers.specs.Stored.{packed, taggingOf}
 use Rattle.mac_registers.specs.Inner.{Holds}
 use Rattle.mac_registers.specs.Tagging.{updated}
+use Rattle.mac_registers.proofs.Fresh.{fresh-lt}
 use Rattle.mac_blocks.specs.InnerWhole.{emptyOf}
-use Rattle.mac_blocks.proofs.Ahead.{fed-all, fed-none, fed-on, room, words-lt}
+use Rattle.mac_blocks.proofs.Ahead.{fed-all, fed-none, fed-on, room}
 use Rattle.mac_blocks.proofs.feed_all.Statement.{statement}
 use Rattle.mac_blocks.proofs.feed_all.Tie as tie
 
@@ -22,7 +23,7 @@ abbrev Inv-loop : tie.InvT-loop
 Inv-loop width words part fed₀ i₀ fed i =
     (i ≤ length part)
     × ((n : ℕ) × (i ≡ n * width))
-    × ((σ : Held) → Holds (emptyOf width σ (fed₀ .key) (fed₀ .tag)) → words ≡ listed (wordAt (σ .meaning)) 0 (length words)
+    × ((σ : Held) → Holds (emptyOf width σ (fed₀ .key) (fed₀ .tag)) → take (length part / 4) words ≡ listed (wordAt (σ .meaning)) 0 (length part / 4)
     → emptyOf width (moved (i / 4) σ) (fed .key) (fed .tag) ≡ packed width (updated (width * 8) (taggingOf (emptyOf width σ (fed₀ .key) (fed₀ .tag))) (take i part)))
 
 abbrev μ-loop : tie.MeasureT-loop
@@ -79,7 +80,7 @@ key-on-requires : tie.Need-key-on-requires Inv-loop μ-loop
 key-on-requires c κs =
     let l = c .before .before .before .before .before .before in
     let s = l .before .before .before in
-    (s .pre .0, words-lt (s .pre .0) (now (s .args .words)) (l .loop .i / 4) _ (c .fresh-at .ensures))
+    (s .pre .0, fresh-lt (now (s .args .words)) (s .pre .0) (l .loop .i / 4) _ (c .fresh-at .ensures))
 
 loop-less : tie.Need-loop-less Inv-loop μ-loop
 loop-less c = let known = fits (c .before .before .before .before .before .before) in omega (arith, known .0, known .2)
@@ -95,7 +96,7 @@ loop-again c =
       fits t .0,
       (suc n, omega (arith, l .loop .inv .1 .1, suc-mul n (a .width))),
       λ σ h e. fed-on (a .width) (a .key) (a .tag) (now (a .words)) (now (a .part)) σ h e (l .loop .i) (l .loop .fed .key) (l .loop .fed .tag) _ _ _
-          (l .loop .inv .2 σ h e) (fits t .1) (fits t .0) (l .before .before .before .pre .1 .0) (block-length t) (g .tag-with .ensures) (f .fresh-at .ensures) (c .key-on .ensures),
+          (l .loop .inv .2 σ h e) (fits t .1) (fits t .0) (block-length t) (g .tag-with .ensures) (f .fresh-at .ensures) (c .key-on .ensures),
     )
 
 returns : tie.Need-returns Inv-loop μ-loop

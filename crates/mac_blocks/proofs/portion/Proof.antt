@@ -1,4 +1,4 @@
--- `blocks::portion` meets its contract: 1024 is a multiple of each width, and what is left is cut to one.
+-- `blocks::portion` meets its contract: 256 is a multiple of each width, and what is left is cut to one.
 use mathlib.Core.Logic.{⊎-elim}
 use Prim.Native.Nat.{ℕ, _-_, _/_, _%_, _<_, _≤_}
 use native.Mathlib.Omega.{arith}
@@ -7,15 +7,15 @@ use Rattle.mac_blocks.specs.InnerWhole.{Portion}
 use Rattle.mac_blocks.proofs.portion.Statement.{statement}
 use Rattle.mac_blocks.proofs.portion.Tie as tie
 
-full : (w left : ℕ) → Width w → 1024 ≤ left → Portion w left 1024
+full : (w left : ℕ) → Width w → 256 ≤ left → Portion w left 256
 full w left v h =
     ⊎-elim
-    (λ e. record { most = omega arith; within = h; some = λ _. omega arith; count = 256; whole = omega arith })
+    (λ e. record { most = omega arith; within = h; some = λ _. omega arith; count = 64; whole = omega arith })
     (λ o. ⊎-elim
-    (λ e. record { most = omega arith; within = h; some = λ _. omega arith; count = 128; whole = omega arith })
-    (λ e. record { most = omega arith; within = h; some = λ _. omega arith; count = 64; whole = omega arith }) o) v
+    (λ e. record { most = omega arith; within = h; some = λ _. omega arith; count = 32; whole = omega arith })
+    (λ e. record { most = omega arith; within = h; some = λ _. omega arith; count = 16; whole = omega arith }) o) v
 
-cut : (w left : ℕ) → Width w → left < 1024 → (0 < w) × (left % w ≤ left) × Portion w left (left - left % w)
+cut : (w left : ℕ) → Width w → left < 256 → (0 < w) × (left % w ≤ left) × Portion w left (left - left % w)
 cut w left v h =
     ⊎-elim
     (λ e. rw e (omega arith, omega arith, record { most = omega arith; within = omega arith; some = λ l. omega arith; count = left / 4; whole = omega arith }))

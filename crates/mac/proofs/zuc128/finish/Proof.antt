@@ -71,30 +71,30 @@ returns-3 c =
     (ok f (not-false (f .is-formed-128 .result) (b .before .if1 .left))) (sym (b .bits-fit .ensures) ∙ not-false (b .bits-fit .result) (i .if2 .left))
     (sym (left h) ∙ not-true (h .has-left .result) (c .if3 .taken))
 
-close-128-requires : tie.Need-close-128-requires
-close-128-requires c κs =
-    let i = c .before .before .before .before .before .before .before in
+finish-128-requires : tie.Need-finish-128-requires
+finish-128-requires c κs =
+    let i = c .before .before .before in
     let b = i .before in
     let f = b .before .before in
     let a = f .before .before .before .args in
     let t = not-false (f .is-formed-128 .result) (b .before .if1 .left) in
     let l : leb (a .l) (length (now (a .tail)) * 8) ≡ true = sym (b .bits-fit .ensures) ∙ not-false (b .bits-fit .result) (i .if2 .left) in
-    (c .before .before .before .s0 .ensures, (c .before .before .s1 .ensures, (f .is-formed-128 .ensures .1 t .0, (formed-four (taggedOf-128 (a .mac)) (ok f t), leb-true (a .l) (length (now (a .tail)) * 8) l))))
+    (f .is-formed-128 .ensures .1 t .0, (formed-four (taggedOf-128 (a .mac)) (ok f t), leb-true (a .l) (length (now (a .tail)) * 8) l))
 
 returns-4 : tie.Need-returns-4
 unfolding finishOutcome-128
 returns-4 c =
     let d = c .before in
-    let p = d .before .before .before .before .before in
+    let p = d .before in
     let i = p .before .before .before in
     let b = i .before in
     let f = b .before .before in
     let a = f .before .before .before .args in
     closed 0 (tagFormed formed-128 (taggedOf-128 (a .mac))) (taggedOf-128 (a .mac)) (closeWords-128 (storedOf (a .mac .state)) (a .l)) (now (a .tail)) (a .l) (closed-EIA3 (taggingOf (storedOf (a .mac .state))) (now (a .tail)) (a .l))
     (ok f (not-false (f .is-formed-128 .result) (b .before .if1 .left))) (sym (b .bits-fit .ensures) ∙ not-false (b .bits-fit .result) (i .if2 .left))
-    (sym (left (p .before)) ∙ not-false (p .before .has-left .result) (p .if3 .left)) _ _ (d .close-128 .ensures) (c .zero-state .ensures)
+    (sym (left (p .before)) ∙ not-false (p .before .has-left .result) (p .if3 .left)) _ _ (d .finish-128 .ensures) (c .zero-state .ensures)
 
 pub finish-spec : {M : Type 1} → statement M
 finish-spec =
     tie.close
-    (tie.spec (λ c κs. search needs) returns (λ c κs. search needs) returns-2 to-close-128-requires has-left-requires returns-3 (λ c κs. search needs) (λ c κs. search needs) close-128-requires (λ c κs. search needs) returns-4)
+    (tie.spec (λ c κs. search needs) returns (λ c κs. search needs) returns-2 to-close-128-requires has-left-requires returns-3 finish-128-requires (λ c κs. search needs) returns-4)

@@ -12,10 +12,7 @@ use Rattle.standard.specs.States.{limit}
 use Rattle.standard.proofs.Held.{Ready}
 use Rattle.zuc.specs.Reading.{heldOf}
 use Rattle.keystream.specs.Starts.{StartOutcome, startNumber, startTold}
-use Rattle.mac_registers.specs.Stored.{tagWords}
 use Rattle.mac_registers.specs.Inner.{Width}
-use Rattle.mac_registers.specs.Tagging.{closed-ZUC256}
-use Rattle.mac_registers.proofs.Packed.{at-packed, good-ZUC256, held-as}
 use Rattle.standard.specs.Refusals.{badKey, tested}
 use Rattle.mac.specs.Inner.{Live, once-from-256}
 use Rattle.mac.specs.Calls.{onceOutcome-256}
@@ -24,7 +21,7 @@ use Rattle.mac.proofs.Outcomes.{key-refused-256, once-256-is, spelled-t
 use Rattle.mac.proofs.zuc256.compute.Statement.{statement}
 use Rattle.mac.proofs.zuc256.compute.Tie as tie
 
-tag-length : (d : tie.After-close-256) → length (d .close-256 .result) ≡ 2
+tag-length : (d : tie.After-once-256) → length (d .once-256 .result) ≡ 2
 tag-length d = search needs
 
 module _ (n : tie.After-new-with-d) (e : startTold (n .new-with-d .result) .number ≡ 0) where
@@ -84,38 +81,20 @@ returns-2 c =
     refl)
     ∙ told n
 
-begin-256-requires : tie.Need-begin-256-requires
-begin-256-requires c κs =
-    let m = c .before .before .before .before .before .before .before .before .before .before in
-    let n = m .before .before .before in
-    let e = ap startNumber (m .enum-told .given .1) in
-    (c .before .before .before .before .s0 .ensures, (c .before .before .before .s1 .ensures, (sound n e, width n e)))
-
-close-256-requires : tie.Need-close-256-requires
-close-256-requires c κs =
-    let b = c .before .before in
-    let p = b .before .before .before .before .before .before in
-    let i = p .before .before .before in
+once-256-requires : tie.Need-once-256-requires
+once-256-requires c κs =
+    let i = c .before .before .before in
     let f = i .before in
     let m = f .before in
     let n = m .before .before .before in
     let a = n .before .before .before .before .args in
-    let e = ap startNumber (m .enum-told .given .1) in (
-      b .before .before .before .raised .ensures,
-      (
-        b .before .before .before .before .s1 .ensures,
-        (
-          held-as (b .begin-256 .ensures) (good-ZUC256 (width n e) (heldOf (n .new-with-d .result .state .z)) (sound n e)),
-          leb-true (a .l) (length (now (a .message)) * 8) (sym (f .bits-fit .ensures) ∙ not-false (f .bits-fit .result) (i .if1 .left)),
-        ),
-      ),
-    )
+    let e = ap startNumber (m .enum-told .given .1) in
+    (width n e, (sound n e, leb-true (a .l) (length (now (a .message)) * 8) (sym (f .bits-fit .ensures) ∙ not-false (f .bits-fit .result) (i .if1 .left))))
 
 returns-3 : tie.Need-returns-3
 unfolding once-from-256 tested
 returns-3 c =
-    let b = c .before .before .before in
-    let p = b .before .before .before .before .before .before in
+    let p = c .before in
     let i = p .before .before .before in
     let f = i .before in
     let m = f .before in
@@ -128,10 +107,7 @@ returns-3 c =
       sym (left (p .before)) ∙ not-false (p .before .has-left .result) (p .if2 .left),
     )
     (ap (λ (x : List ℕ). record { number = 0; tag = x })
-    (sym (spelled-tag (c .close-256 .result) (tag-length c)
-    ∙ c .close-256 .ensures
-    ∙ at-packed (λ w st. tagWords w (closed-ZUC256 (w * 8) st (now (a .message)) (a .l))) (b .begin-256 .ensures)
-    (good-ZUC256 (width n e) (heldOf (n .new-with-d .result .state .z)) (sound n e))))))
+    (sym (spelled-tag (c .once-256 .result) (tag-length c) ∙ c .once-256 .ensures))))
     ∙ told n
 
 returns-4 : tie.Need-returns-4
@@ -158,4 +134,4 @@ returns-6 c =
 pub compute-spec : {M : Type 1} → statement M
 compute-spec =
     tie.close
-    (tie.spec (λ c κs. search needs) (λ c. search needs) (λ c κs. search needs) returns by-tag-256-requires (λ c κs. search needs) returns-2 (λ c κs. search needs) (λ c κs. search needs) (λ c κs. search needs) begin-256-requires close-256-requires (λ c. search needs) (λ c. search needs) (λ c. search needs) (λ c. search needs) returns-3 returns-4 returns-5 returns-6)
+    (tie.spec (λ c κs. search needs) (λ c. search needs) (λ c κs. search needs) returns by-tag-256-requires (λ c κs. search needs) returns-2 once-256-requires (λ c. search needs) (λ c. search needs) (λ c. search needs) (λ c. search needs) returns-3 returns-4 returns-5 returns-6)

@@ -20,7 +20,7 @@ use Rattle.mac.proofs.zuc256.finish.Tie as tie
 ok : (f : tie.After-is-formed-256) (t : f .is-formed-256 .result ≡ true) → tagFormed formed (taggedOf-256 (f .before .before .before .args .mac)) ≡ true
 ok f t = sym (f .is-formed-256 .ensures .0) ∙ t
 
-tag-length : (d : tie.After-close-256) → length (d .close-256 .result) ≡ 2
+tag-length : (d : tie.After-finish-256) → length (d .finish-256 .result) ≡ 2
 tag-length d = search needs
 
 -- the state was found within the limit
@@ -69,30 +69,30 @@ returns-3 c =
     (ok f (not-false (f .is-formed-256 .result) (b .before .if1 .left))) (sym (b .bits-fit .ensures) ∙ not-false (b .bits-fit .result) (i .if2 .left))
     (sym (left h) ∙ not-true (h .has-left .result) (c .if3 .taken))
 
-close-256-requires : tie.Need-close-256-requires
-close-256-requires c κs =
-    let i = c .before .before .before .before .before .before .before in
+finish-256-requires : tie.Need-finish-256-requires
+finish-256-requires c κs =
+    let i = c .before .before .before in
     let b = i .before in
     let f = b .before .before in
     let a = f .before .before .before .args in
     let t = not-false (f .is-formed-256 .result) (b .before .if1 .left) in
     let l : leb (a .l) (length (now (a .tail)) * 8) ≡ true = sym (b .bits-fit .ensures) ∙ not-false (b .bits-fit .result) (i .if2 .left) in
-    (c .before .before .before .raised .ensures, (c .before .before .s1 .ensures, (f .is-formed-256 .ensures .1 t .0, leb-true (a .l) (length (now (a .tail)) * 8) l)))
+    (f .is-formed-256 .ensures .1 t .0, leb-true (a .l) (length (now (a .tail)) * 8) l)
 
 returns-4 : tie.Need-returns-4
 unfolding finishOutcome-256
 returns-4 c =
     let d = c .before in
-    let p = d .before .before .before .before .before in
+    let p = d .before in
     let i = p .before .before .before in
     let b = i .before in
     let f = b .before .before in
     let a = f .before .before .before .args in
     closed noWords (tagFormed formed (taggedOf-256 (a .mac))) (taggedOf-256 (a .mac)) (closeWords-256 (storedOf (a .mac .state)) (a .l)) (now (a .tail)) (a .l) (tagWords (a .mac .state .width) (closed-ZUC256 (a .mac .state .width * 8) (taggingOf (storedOf (a .mac .state))) (now (a .tail)) (a .l)))
     (ok f (not-false (f .is-formed-256 .result) (b .before .if1 .left))) (sym (b .bits-fit .ensures) ∙ not-false (b .bits-fit .result) (i .if2 .left))
-    (sym (left (p .before)) ∙ not-false (p .before .has-left .result) (p .if3 .left)) _ _ (spelled-tag (d .close-256 .result) (tag-length d) ∙ d .close-256 .ensures) (c .zero-state .ensures)
+    (sym (left (p .before)) ∙ not-false (p .before .has-left .result) (p .if3 .left)) _ _ (spelled-tag (d .finish-256 .result) (tag-length d) ∙ d .finish-256 .ensures) (c .zero-state .ensures)
 
 pub finish-spec : {M : Type 1} → statement M
 finish-spec =
     tie.close
-    (tie.spec (λ c κs. search needs) returns (λ c κs. search needs) returns-2 to-close-256-requires has-left-requires returns-3 (λ c κs. search needs) (λ c κs. search needs) close-256-requires (λ c κs. search needs) (λ c. search needs) (λ c. search needs) returns-4)
+    (tie.spec (λ c κs. search needs) returns (λ c κs. search needs) returns-2 to-close-256-requires has-left-requires returns-3 finish-256-requires (λ c κs. search needs) (λ c. search needs) (λ c. search needs) returns-4)

@@ -18,34 +18,27 @@ zero-number : (n : tie.After-new-with-d) → startTold (n .new-with-d .result) .
     → startTag₂₅₆ (n .before .before .before .args .width) (now (n .before .before .before .args .key)) (now (n .before .before .before .args .iv)) .number ≡ 0
 zero-number n e = ap (λ (o : StartOutcome). o .number) (sym (n .new-with-d .ensures)) ∙ e
 
-begin-256-requires : tie.Need-begin-256-requires
-begin-256-requires c κs =
-    let m = c .before .before .before .before in
-    let n = m .before .before .before in
+start-256-requires : tie.Need-start-256-requires
+start-256-requires c κs =
+    let n = c .before .before .before in
     let v = n .before in
     let k = v .before in
     let a = k .before .args in
-    let e = ap startNumber (m .enum-told .given .1) in (
-      c .before .before .before .s0 .ensures,
-      (
-        c .before .before .s1 .ensures,
-        (
-          subst Live (sym (n .new-with-d .ensures))
-              (live-256 (a .width) (now (a .key)) (now (a .iv)) (λ i. k .shared-slice-known .given i .fits) (λ i. v .shared-slice-known2 .given i .fits)) e,
-          accepted-width (a .width) (now (a .key)) (now (a .iv)) (zero-number n e),
-        ),
-      ),
+    let e = ap startNumber (c .enum-told .given .1) in (
+      accepted-width (a .width) (now (a .key)) (now (a .iv)) (zero-number n e),
+      subst Live (sym (n .new-with-d .ensures))
+          (live-256 (a .width) (now (a .key)) (now (a .iv)) (λ i. k .shared-slice-known .given i .fits) (λ i. v .shared-slice-known2 .given i .fits)) e,
     )
 
 returns : tie.Need-returns
 unfolding begun-256
 returns c =
-    let m = c .before .before .before .before .before in
+    let m = c .before in
     let n = m .before .before .before in
     let a = n .before .before .before .args in
     let e = ap startNumber (m .enum-told .given .1) in
-    started-as (startTold (n .new-with-d .result)) (taggedOf (c .begin-256 .result) (a .width / 4 * 3)) _ e
-    (ap₂ (λ (x : Stored) (k : ℕ). record { held = x; count = k }) (c .begin-256 .ensures)
+    started-as (startTold (n .new-with-d .result)) (taggedOf (c .start-256 .result) (a .width / 4 * 3)) _ e
+    (ap₂ (λ (x : Stored) (k : ℕ). record { held = x; count = k }) (c .start-256 .ensures)
     (begun-words (accepted-width (a .width) (now (a .key)) (now (a .iv)) (zero-number n e))))
     ∙ ap (begun-256 (a .width)) (n .new-with-d .ensures)
     ∙ begun-256-is (now (a .key)) (now (a .iv)) (a .width)
@@ -65,4 +58,4 @@ returns-2 c =
 pub new-spec : {M : Type 1} → statement M
 new-spec =
     tie.close
-    (tie.spec (λ c κs. search needs) (λ c. search needs) (λ c κs. search needs) (λ c κs. search needs) begin-256-requires (λ c. search needs) (λ c κs. search needs) returns returns-2)
+    (tie.spec (λ c κs. search needs) (λ c. search needs) start-256-requires (λ c. search needs) (λ c κs. search needs) returns returns-2)

@@ -1,93 +1,67 @@
--- `tagging::closing::close_128` meets its contract: the closing block, and the extra word.
+-- `close_128` meets its contract: as that of a ZUC-256 tag of 32 bits, and one word more.
 use mathlib.Core.Path.{sym}
 use native.Mathlib.Omega.{arith}
 use lib.Seq.{length-take-le}
 use borrow.Author.Needs.{needs}
 use denote.Ref.{now}
-use Rattle.zuc.specs.Inner.{drawnOf}
-use Rattle.mac_registers.specs.Stored.{storedOf}
+use Rattle.mac_registers.specs.Inner.{Holds}
+use Rattle.mac_registers.specs.InnerOpen.{storedAt}
 use Rattle.mac_blocks.proofs.Moves.{cnt-most}
 use Rattle.mac_tagging.proofs.Ends.{closes-128, end-held, tag-fits, width-four}
 use Rattle.mac_tagging.proofs.closing.close_128.Statement.{statement}
 use Rattle.mac_tagging.proofs.closing.close_128.Tie as tie
 
-slice-aggregate-update : tie.Need-slice-aggregate-update
-slice-aggregate-update c = sym (length-take-le _ _ (omega (arith, c .before .before .before .before .pre .1 .1 .1 .1)))
-
-update-requires : tie.Need-update-requires
-update-requires c κs =
-    let s = c .before .before .before .before in
-    (c .before .before .raised .ensures, (s .pre .1 .0, s .pre .1 .1 .0))
+held : (u : tie.After-update) → Holds (storedAt (u .update .last .1 .1 .0) (u .update .result))
+held u = let s = u .before .before .before .before .before .before .before in end-held (s .pre .1 .1 .0 .holds .good) (now (s .args .tail)) (s .args .l) _ (u .update .ensures .stored)
 
 last-tag-requires : tie.Need-last-tag-requires
 last-tag-requires c κs =
-    let s = c .before .before .before .before .before in
-    let a = s .args in
-    (end-held (s .pre .1 .1 .0 .good) (now (a .tail)) (a .l) (storedOf (c .update .result)) (c .update .ensures), (omega arith, omega (arith, s .pre .1 .1 .1 .1)))
-
-mul-extra : tie.Need-mul-extra
-mul-extra c =
-    let u = c .before .before in
-    let s = u .before .before .before .before .before in
-    let a = s .args in
-    omega (arith, cnt-most (storedOf (u .update .result)) (end-held (s .pre .1 .1 .0 .good) (now (a .tail)) (a .l) (storedOf (u .update .result)) (u .update .ensures)))
-
-add-extra : tie.Need-add-extra
-add-extra c =
-    let u = c .before .before in
-    let s = u .before .before .before .before .before in
-    let a = s .args in
-    omega (arith, cnt-most (storedOf (u .update .result)) (end-held (s .pre .1 .1 .0 .good) (now (a .tail)) (a .l) (storedOf (u .update .result)) (u .update .ensures)))
+    let h = held (c .before .before .before .before) in
+    ((h .good .a-width, cnt-most _ h), (omega arith, omega (arith, c .before .before .before .before .before .before .before .before .before .before .before .pre .1 .1 .1 .1)))
 
 extra-requires : tie.Need-extra-requires
 extra-requires c κs =
-    let t = c .before in
-    let u = t .before in
-    let s = u .before .before .before .before .before in
-    let a = s .args in
-    let g = s .pre .1 .1 .0 .good in (
+    let u = c .before .before .before .before .before .before .before .before in
+    let s = u .before .before .before .before .before .before .before in
+    let t = c .before .before .before .last-tag in (
       s .pre .0,
       (
         s .pre .1 .0,
         (
-          end-held g (now (a .tail)) (a .l) (storedOf (u .update .result)) (u .update .ensures),
-          width-four g (now (a .tail)) (a .l) (storedOf (u .update .result)) (u .update .ensures) (s .pre .1 .1 .1 .0) (t .last-tag .result) (t .last-tag .ensures),
+          record { rest = u .update .ensures .rest; holds = held u },
+          width-four (s .pre .1 .1 .0 .holds .good) (now (s .args .tail)) (s .args .l) _ (u .update .ensures .stored) (s .pre .1 .1 .1 .0) _ (t .ensures (u .update .last .1 .1 .0) (held u)),
         ),
       ),
     )
 
 cast-result : tie.Need-cast-result
 cast-result c =
-    let t = c .before .before in
-    let u = t .before in
-    let s = u .before .before .before .before .before in
-    let a = s .args in
+    let u = c .before .before .before .before .before .before .before .before .before .before .before .before .before in
+    let s = u .before .before .before .before .before .before .before in
     record {
-      fits = tag-fits (s .pre .1 .1 .0 .good) (now (a .tail)) (a .l) (storedOf (u .update .result)) (u .update .ensures) (s .pre .1 .1 .1 .0)
-          (t .last-tag .result) (t .last-tag .ensures);
+      fits = tag-fits (s .pre .1 .1 .0 .holds .good) (now (s .args .tail)) (s .args .l) _ (u .update .ensures .stored) (s .pre .1 .1 .1 .0)
+          _ (c .before .before .before .before .before .before .before .before .last-tag .ensures (u .update .last .1 .1 .0) (held u));
     }
 
 returns : tie.Need-returns
 returns c =
-    let d = c .before in
-    let t = d .before .before in
-    let u = t .before in
-    let s = u .before .before .before .before .before in
-    let a = s .args in
-    closes-128 (s .pre .1 .1 .0 .good) (now (a .tail)) (a .l) (storedOf (u .update .result)) (u .update .ensures) (s .pre .1 .1 .1 .0)
-    (t .last-tag .result) (t .last-tag .ensures) (drawnOf (d .extra .result)) (d .extra .ensures)
+    let u = c .before .before .before .before .before .before .before .before .before .before .before .before .before in
+    let s = u .before .before .before .before .before .before .before in
+    closes-128 (s .pre .1 .1 .0 .holds .good) (now (s .args .tail)) (s .args .l) _ (u .update .ensures .stored) (s .pre .1 .1 .1 .0)
+    _ (c .before .before .before .before .before .before .before .before .last-tag .ensures (u .update .last .1 .1 .0) (held u)) _ (c .before .before .before .before .extra .ensures)
 
 pub close-128-spec : {M : Type 1} → statement M
 close-128-spec =
     tie.close
     (tie.spec
+    (λ c. sym (length-take-le _ _ (omega (arith, c .before .before .before .before .before .before .pre .1 .1 .1 .1))))
     (λ c κs. search needs)
-    slice-aggregate-update
-    update-requires
     last-tag-requires
-    mul-extra
-    add-extra
+    (λ c. omega (arith, cnt-most _ (held (c .before .before .before .before .before .before .before .before))))
+    (λ c. omega (arith, cnt-most _ (held (c .before .before .before .before .before .before .before .before))))
     extra-requires
     (λ c. search needs)
     cast-result
+    (λ c. search needs)
+    (λ c. search needs)
     returns)

@@ -1,18 +1,21 @@
--- `tagging::closing::last_tag` meets its contract: the closing block goes the way of the others.
-use mathlib.Core.List.{List}
+-- `last_tag` meets its contract: the closing block goes the way of the others.
+use mathlib.Core.List.{List, _∷_, _++_}
 use mathlib.Core.Path.{_≡_, ap, _∙_}
-use Prim.Native.Nat.{ℕ, _+_, _*_, _-_}
+use Prim.Native.Nat.{ℕ, suc, _+_, _*_, _-_}
 use native.Mathlib.Omega.{arith}
-use lib.ListN.{drop, length}
+use lib.ListN.{drop, length, replicate}
 use borrow.Author.Needs.{needs}
 use denote.Ref.{now}
 use Rattle.standard.specs.Bits.{M, bitOf}
 use Rattle.standard.specs.Integrity.{T}
 use Rattle.standard.specs.Notation.{_⊕_}
-use Rattle.mac_registers.specs.Stored.{storedOf, tagWords, taggingOf}
+use Rattle.mac_registers.specs.Stored.{tagWords, taggingOf}
+use Rattle.mac_registers.specs.Inner.{lastByte}
+use Rattle.mac_registers.specs.InnerOpen.{storedAt}
 use Rattle.mac_registers.specs.Tagging.{lastTag}
 use Rattle.mac_registers.proofs.Packed.{width-most}
 use Rattle.mac_blocks.proofs.Moves.{cnt-is}
+use Rattle.mac_tagging.proofs.Bytes.{rem-next}
 use Rattle.mac_tagging.proofs.Last.{lastTag-is}
 use Rattle.mac_tagging.proofs.closing.last_tag.Statement.{statement}
 use Rattle.mac_tagging.proofs.closing.last_tag.Tie as tie
@@ -20,29 +23,29 @@ use Rattle.mac_tagging.proofs.closing.last_tag.Tie as tie
 block-length : (b : tie.After-last-block) → length (b .last-block .result) ≡ 16
 block-length b = search needs
 
-last-block-requires : tie.Need-last-block-requires
-last-block-requires c κs = c .before .pre
-
 tag-with-requires : tie.Need-tag-with-requires
 tag-with-requires c κs =
-    let b = c .before .before .before in
-    let s = b .before .before in
-    (s .pre .0 .good .a-width, omega (arith, block-length b, width-most (s .pre .0 .good .a-width)))
+    let v = c .before .before .before .before .before .before .pre .0 .0 in
+    (v, omega (arith, block-length (c .before), width-most v))
 
 returns : tie.Need-returns
 unfolding taggingOf
 returns c =
-    let b = c .before .before .before .before in
-    let s = b .before .before in
+    let s = c .before .before .before .before .before .before .before in
     let a = s .args in
-    let t = a .s .width * 8 in
-    let st = taggingOf (storedOf (a .s)) in
-    let cnt : length (st .waiting) ≡ a .s .cnt = cnt-is (storedOf (a .s)) (s .pre .0) in
+    let o = a .o in
+    let t : ℕ = o .width * 8 in
+    let rest : List ℕ = drop (a .q) (now (a .tail)) in
+    let n : 16 - suc (o .cnt) ≡ 15 - o .cnt = omega arith in
+    λ run h.
+    let st = taggingOf (storedAt run o) in
+    let cnt : length (st .waiting) ≡ o .cnt = cnt-is (storedAt run o) h in
     c .tag-with .ensures
-    ∙ ap (λ (m : List ℕ). tagWords (a .s .width) (st .tag ⊕ T t (bitOf (t + t) (st .key)) 0 (M m) t)) (b .last-block .ensures)
-    ∙ ap (tagWords (a .s .width))
-    (lastTag-is t st (drop (a .q) (now (a .tail))) (a .r) (15 - a .s .cnt) (s .pre .1 .0) (omega (arith, s .pre .0 .good .short, s .pre .1 .0))
-    ∙ ap (λ (n : ℕ). lastTag t st (drop (a .q) (now (a .tail))) (n * 8 + a .r)) cnt)
+    ∙ ap (λ (m : List ℕ). tagWords (o .width) (st .tag ⊕ T t (bitOf (t + t) (st .key)) 0 (M m) t))
+    (c .before .before .last-block .ensures ∙ rem-next (storedAt run o) h (lastByte rest (a .r)) ∙ ap (λ (k : ℕ). st .waiting ++ (lastByte rest (a .r) ∷ replicate k 0)) n)
+    ∙ ap (tagWords (o .width))
+    (lastTag-is t st rest (a .r) (15 - o .cnt) (s .pre .1 .0) (omega (arith, h .good .short, s .pre .1 .0))
+    ∙ ap (λ (k : ℕ). lastTag t st rest (k * 8 + a .r)) cnt)
 
 pub last-tag-spec : {M : Type 1} → statement M
-last-tag-spec = tie.close (tie.spec last-block-requires (λ c. search needs) tag-with-requires returns)
+last-tag-spec = tie.close (tie.spec (λ c κs. search needs) (λ c. search needs) tag-with-requires returns)

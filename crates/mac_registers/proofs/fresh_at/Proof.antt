@@ -1,13 +1,13 @@
--- `blocks::fresh_at` meets its contract: at each width the words of the list, in the words of a tag.
+-- `fresh_at` meets its contract: at each width the words of the list, in the words of a tag.
 use mathlib.Core.Path.{_≡_}
 use Prim.Native.Nat.{_<_, _^_}
 use native.Mathlib.Omega.{arith}
 use borrow.Author.Needs.{needs}
 use denote.Ref.{now}
 use Rattle.mac_registers.proofs.Widths.{is-16}
-use Rattle.mac_blocks.proofs.Ahead.{fresh-16, fresh-4, fresh-8}
-use Rattle.mac_blocks.proofs.fresh_at.Statement.{statement}
-use Rattle.mac_blocks.proofs.fresh_at.Tie as tie
+use Rattle.mac_registers.proofs.Fresh.{fresh-16, fresh-4, fresh-8}
+use Rattle.mac_registers.proofs.fresh_at.Statement.{statement}
+use Rattle.mac_registers.proofs.fresh_at.Tie as tie
 
 wide : (m : tie.At-match-rest) → m .before .before .args .width ≡ 16
 wide m = is-16 (m .before .before .args .width) (m .before .before .pre .0) (m .match .rest .0 .1) (m .match .rest .1)
