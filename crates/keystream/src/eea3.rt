@@ -1,25 +1,12 @@
-// 128-EEA3: the IV, the start, and its strict form.
+// 128-EEA3: the start, and its strict form.
 ghost use mathlib.Core.Path.{_≡_};
 ghost use Rattle.keystream.specs.Starts.{startTold, start-EEA3, strictStart-EEA3};
-ghost use Rattle.standard.specs.Confidentiality.{IV-EEA3};
 use super::Start;
 use super::StartAnswer;
 use super::refused;
 use super::zuc128;
-use words::byte_of;
 use words::fields_fit;
-
-// The IV. A bearer keeps its low 5 bits, a direction its low bit.
-pub fn iv(count: u32, bearer: u8, direction: u8) -> [u8; 16]
-    ensures { λ r. ⌜ r ≡ IV-EEA3 count bearer direction ⌝ }
-{
-    let c0 = byte_of(count, 0);
-    let c1 = byte_of(count, 1);
-    let c2 = byte_of(count, 2);
-    let c3 = byte_of(count, 3);
-    let c4 = bearer % 32 * 8 + direction % 2 * 4;
-    [c0, c1, c2, c3, c4, 0, 0, 0, c0, c1, c2, c3, c4, 0, 0, 0]
-}
+use zuc_loading::eea3::iv;
 
 // A generator of the EEA3 keystream, or BadKey for a key that is not 16 bytes.
 pub fn new(count: u32, bearer: u8, direction: u8, key: &[u8]) -> Start

@@ -10,9 +10,9 @@ ghost use Rattle.standard.specs.Loading.{load₁₂₈};
 use super::Reach;
 use super::mask_from;
 use super::reach_of;
-use keystream::eea3::iv;
 use words::fields_fit;
 use zuc::Zuc;
+use zuc_loading::eea3::iv;
 use zuc_loading::zuc128::load;
 
 // The words drawn, or why the call was refused.

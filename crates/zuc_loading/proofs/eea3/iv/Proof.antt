@@ -3,8 +3,8 @@ use mathlib.Core.List.{[], _∷_}
 use Prim.Native.Nat.{_%_, _*_, _+_}
 use Rattle.standard.specs.Confidentiality.{IV-EEA3}
 use borrow.Author.Needs.{needs}
-use Rattle.keystream.proofs.eea3.iv.Statement.{statement}
-use Rattle.keystream.proofs.eea3.iv.Tie as tie
+use Rattle.zuc_loading.proofs.eea3.iv.Statement.{statement}
+use Rattle.zuc_loading.proofs.eea3.iv.Tie as tie
 
 returns : tie.Need-returns
 unfolding IV-EEA3
