@@ -17,6 +17,7 @@ use compare::rng::Rng;
 use yegetmur::capi::{self, STATE_WORDS};
 use yegetmur::frame::{self, Fields, BESIDE, HEAD};
 use yegetmur::{Guard, Link};
+use zuc::zuc256::Zuc256Keystream;
 
 /// Bytes of a message or a buffer.
 const SIZES: [usize; 6] = [16, 64, 256, 1 << 10, 1 << 16, 1 << 20];
@@ -94,6 +95,7 @@ fn main() {
     let mut buffers = Buffers { bytes: Rng::new(1).bytes(1 << 20), words: vec![0; 1 << 18] };
     let curves = all_sizes(options.rounds, &mut buffers);
     frames(options.rounds, &mut buffers);
+    starts(options.rounds, &mut buffers);
     one_call(options.rounds, &mut buffers);
     single_draw(options.rounds, &mut buffers);
     guard_call(options.rounds, &mut buffers);
@@ -178,6 +180,30 @@ fn frames(rounds: usize, buffers: &mut Buffers) {
         row("frame, read", size, crate_ns, port_ns);
         assert_eq!(buffers.bytes[body.clone()], plain[body], "a frame was not read");
     }
+}
+
+/// A start by itself: the crate's generator, and the port's into a C array.
+fn starts(rounds: usize, buffers: &mut Buffers) {
+    let mut state = [0; STATE_WORDS];
+    let original: Work = &mut |_, _| {
+        black_box(on_crate::Zuc128Keystream::new(black_box(&KEY), black_box(&KEY)));
+    };
+    let port: Work = &mut |_, _| {
+        black_box(capi::zuc128_start(black_box(&mut state), black_box(&KEY), black_box(&KEY)));
+    };
+    let (crate_ns, port_ns) = least(rounds, buffers, KEY.len(), original, port);
+    println!("{:<24} {:>8} {:>11} {:>11} {:>7}", "", "bytes", "crate ns", "port ns", "ratio");
+    row("ZUC-128, started", KEY.len(), crate_ns, port_ns);
+
+    let original: Work = &mut |_, _| {
+        black_box(Zuc256Keystream::new(black_box(&LONG_KEY), black_box(&LONG_IV)));
+    };
+    let port: Work = &mut |_, _| {
+        let (key, iv) = (black_box(&LONG_KEY), black_box(&LONG_IV));
+        black_box(capi::zuc256_start(black_box(&mut state), key, iv));
+    };
+    let (crate_ns, port_ns) = least(rounds, buffers, LONG_KEY.len(), original, port);
+    row("ZUC-256, started", LONG_KEY.len(), crate_ns, port_ns);
 }
 
 /// EEA3 of 64 bytes through C: a start and a mask of it, and in one call; no crate.
