@@ -13,7 +13,6 @@ use Rattle.standard.specs.Bits.{bitAt, window}
 use Rattle.standard.specs.Notation.{_⟨_⟩}
 use Rattle.zuc.proofs.Turning.{places-back}
 use Rattle.zuc.specs.declared.Zuc.{Zuc}
-use Rattle.zuc.specs.Reading.{heldOf}
 use borrow.Author.Needs.{needs}
 use Rattle.capi_arrays.proofs.words_of.Statement.{statement}
 use Rattle.capi_arrays.proofs.words_of.Tie as tie
