@@ -1,4 +1,6 @@
 // The standard's number of each answer, and the word, count or tag that it holds: zeros, where it is a refusal.
+#![tactic(auto)]
+
 ghost use Rattle.std.specs.Prelude.{◌≡◌};
 ghost use Rattle.frame.specs.Outcome.{number_of as frameNumber};
 ghost use Rattle.guard.specs.Outcome.{accept_number, rekey_number};

@@ -1,5 +1,7 @@
 // States as arrays of numbers, for callers in C, and back. Nothing is lost either way: what is packed is unpacked the same, and what is
 // unpacked is packed the same, whatever an array holds.
+#![tactic(auto)]
+
 ghost use Rattle.std.specs.Prelude.{◌≡◌, drop, length, take, ◌*◌, ◌^◌, ◌<◌, ◌≤◌};
 ghost use Rattle.capi_arrays.specs.Arrays.{array_of, held_from, held_in, placed, regrouped, stored_in, tag_array_of};
 ghost use Rattle.mac_registers.specs.Stored.{stored_of};

@@ -1,4 +1,6 @@
 // A draw in the array that the caller lends: one cell, the registers, the start index and the count are written, and nothing is copied out.
+#![tactic(auto)]
+
 ghost use Rattle.std.specs.Prelude.{leb, length, ◌≡◌, ◌+◌, ◌<◌};
 ghost use Rattle.capi_arrays.specs.Arrays.{array_of, held_from, held_in};
 ghost use Rattle.capi_draw.specs.Turns.{put_into, turn_of};
@@ -74,8 +76,8 @@ fn put(a: &mut [u32], i: usize, t: Turn)
 
 // The next word.
 pub fn draw_in(a: &mut [u32; 20]) -> u32
-    requires fact_1 { Ready (held_in a.old).held }
-    requires fact_2 { (held_in a.old).count < limit }
+    requires ready { Ready (held_in a.old).held }
+    requires left { (held_in a.old).count < limit }
     ensures word { result ≡ word (held_in a.old).held.meaning }
     ensures array { a.new ≡ array_of (drawn_on 1 (held_in a.old)) }
 {

@@ -1,4 +1,6 @@
 // A sealed block two vendors can read (request 2026-01): a frame is written and read in the buffer that the caller lends, and in no other.
+#![tactic(auto)]
+
 ghost use Rattle.std.specs.Prelude.{◌≡◌, ◌≤◌, ◌+◌, eqb, length};
 ghost use Rattle.frame.specs.Inner.{Sealable, Taken};
 ghost use Rattle.frame.specs.Outcome.{fields_of, number_of, read_outcome, read_tests, read_told, write_outcome, write_tests, written_told};

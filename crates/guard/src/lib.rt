@@ -1,4 +1,6 @@
 // A guard over a lent table of links: no COUNT passes twice on one link under one key.
+#![tactic(auto)]
+
 ghost use Rattle.std.specs.Prelude.{◌≡◌, ◌*◌, ◌%◌, ◌^◌};
 ghost use Rattle.guard.specs.Inner.{standing_bits, step_outcome, step_told};
 ghost use Rattle.guard.specs.Outcome.{accept_number, accept_outcome, link_of, rekey_number, rekey_outcome, table_of};

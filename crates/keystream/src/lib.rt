@@ -1,4 +1,6 @@
 // The public keystream: starts (in the modules), a draw, and a buffer of words.
+#![tactic(auto)]
+
 ghost use Rattle.std.specs.Prelude.{◌≡◌};
 ghost use Rattle.keystream.specs.Draws.{draw_told, draw_outcome, fill_told, fill_outcome};
 ghost use Rattle.keystream.specs.Starts.{accepted_start, refused_start, start_told, start_number};

@@ -1,4 +1,6 @@
 // Tags: ZUC-128 and EIA3 of 32 bits, ZUC-256 of 32, 64 and 128. The calls are in the modules, what they share is here.
+#![tactic(auto)]
+
 ghost use Rattle.std.specs.Prelude.{true, ◌≡◌};
 ghost use Rattle.keystream.specs.Starts.{start_told};
 ghost use Rattle.mac.specs.Calls.{refused_update, start_told-128, update_number, update_outcome, update_told};

@@ -1,4 +1,6 @@
 // Whole blocks of a message in bulk, at any width of a tag: their keystream words are drawn before they are used.
+#![tactic(auto)]
+
 ghost use Rattle.std.specs.Prelude.{length, ◌≡◌, ℕ, ◌*◌, ◌≤◌};
 ghost use Rattle.standard.specs.Boxes.{S₀-table, S₁-table};
 ghost use Rattle.mac_registers.specs.InnerBlocks.{Blocks};
@@ -20,8 +22,8 @@ pub struct Fed {
 
 // Whole blocks, with as many words as they are long.
 fn feed_all(width: usize, key: [u64; 4], tag: [u64; 2], words: &[u32], part: &[u8]) -> Fed
-    requires fact_1 { Width width }
-    requires fact_2 { (length part.now ≤ length words.now * 4) × ((n : ℕ) × (length part.now ≡ n * width)) }
+    requires width_fits { Width width }
+    requires part_fits { (length part.now ≤ length words.now * 4) × ((n : ℕ) × (length part.now ≡ n * width)) }
     ensures { fed_by width key tag words.now part.now result.key result.tag }
 {
     let mut fed = Fed { key, tag };
@@ -51,10 +53,10 @@ fn feed(
     o: Open,
     part: &[u8],
 ) -> Open
-    requires fact_1 { high.now ≡ raised_of S₀-table }
-    requires fact_2 { low.now ≡ S₁-table }
-    requires fact_3 { Opened run.old pairs.old o }
-    requires fact_4 { (o.cnt ≡ 0) × (length part.now ≤ 256) × ((n : ℕ) × (length part.now ≡ n * o.width)) }
+    requires high { high.now ≡ raised_of S₀-table }
+    requires low { low.now ≡ S₁-table }
+    requires opened { Opened run.old pairs.old o }
+    requires blocks { (o.cnt ≡ 0) × (length part.now ≤ 256) × ((n : ℕ) × (length part.now ≡ n * o.width)) }
     ensures { Stands run.new pairs.new result (packed o.width (updated (o.width * 8) (tagging_of (stored_at run.old o)) part.now)) × (result.cnt ≡ 0) }
 {
     let width = o.width;
@@ -99,10 +101,10 @@ pub fn blocks(
     message: &[u8],
     from: usize,
 ) -> Moved
-    requires fact_1 { high.now ≡ raised_of S₀-table }
-    requires fact_2 { low.now ≡ S₁-table }
-    requires fact_3 { Opened run.old pairs.old start }
-    requires fact_4 { (start.cnt ≡ 0) × (from ≤ length message.now) }
+    requires high { high.now ≡ raised_of S₀-table }
+    requires low { low.now ≡ S₁-table }
+    requires opened { Opened run.old pairs.old start }
+    requires aligned { (start.cnt ≡ 0) × (from ≤ length message.now) }
     ensures { AtRest run.new pairs.new result.o.h × Blocks (stored_at run.old start) message.now from (stored_at run.new result.o) result.at }
 {
     let width = start.width;

@@ -1,4 +1,6 @@
 // The words that a tag's calls would draw (request 2026-09), right for every message length: nothing here overflows.
+#![tactic(auto)]
+
 ghost use Rattle.std.specs.Prelude.{◌≡◌, ◌+◌, ◌*◌, ◌/◌, ◌<◌, ◌≤◌};
 ghost use Rattle.standard.specs.Integrity.{drawn_by_tag-EIA3, drawn_by_tag-ZUC256, words_to_close-EIA3, words_to_close-ZUC256, words_to_update};
 ghost use Rattle.mac_registers.specs.Inner.{Width};

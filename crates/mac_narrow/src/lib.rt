@@ -1,4 +1,6 @@
 // Tags of 32 bits in bulk: one loop takes a step of the growing run and looks up a message word, so that each hides the other's waits.
+#![tactic(auto)]
+
 ghost use Rattle.std.specs.Prelude.{length, ◌≡◌, ◌%◌, ◌≤◌, ◌<◌};
 ghost use Rattle.standard.specs.Boxes.{S₀-table, S₁-table};
 ghost use Rattle.zuc_turn.specs.InnerRun.{Laid, Low, raised_of};
@@ -30,11 +32,11 @@ fn words_32(
     start: Narrow,
     part: &[u8],
 ) -> Narrow
-    requires fact_1 { high.now ≡ raised_of S₀-table }
-    requires fact_2 { low.now ≡ S₁-table }
-    requires fact_3 { Laid run.old pairs.old 0 }
-    requires fact_4 { Low start.h × (start.start < 16) }
-    requires fact_5 { (length part.now ≤ 256) × (length part.now % 4 ≡ 0) }
+    requires high { high.now ≡ raised_of S₀-table }
+    requires low { low.now ≡ S₁-table }
+    requires laid { Laid run.old pairs.old 0 }
+    requires halves { Low start.h × (start.start < 16) }
+    requires part_fits { (length part.now ≤ 256) × (length part.now % 4 ≡ 0) }
     ensures { Tagged run.new pairs.new result (updated 32 (tagging_at run.old start) part.now) }
 {
     let mut h = start.h;
@@ -68,11 +70,11 @@ pub fn blocks_32(
     message: &[u8],
     from: usize,
 ) -> Moved
-    requires fact_1 { high.now ≡ raised_of S₀-table }
-    requires fact_2 { low.now ≡ S₁-table }
-    requires fact_3 { Opened run.old pairs.old start }
-    requires fact_4 { (start.cnt ≡ 0) × (from ≤ length message.now) }
-    requires fact_5 { start.width ≡ 4 }
+    requires high { high.now ≡ raised_of S₀-table }
+    requires low { low.now ≡ S₁-table }
+    requires opened { Opened run.old pairs.old start }
+    requires aligned { (start.cnt ≡ 0) × (from ≤ length message.now) }
+    requires width_is { start.width ≡ 4 }
     ensures { AtRest run.new pairs.new result.o.h × Blocks (stored_at run.old start) message.now from (stored_at run.new result.o) result.at }
 {
     let h = start.h;

@@ -1,4 +1,6 @@
 // The registers of a tag, for tags of 32, 64 and 128 bits.
+#![tactic(auto)]
+
 ghost use Rattle.std.specs.Prelude.{length, ◌≡◌, ◌+◌, ◌*◌, ◌/◌, ◌%◌, ◌^◌, ◌≤◌, ◌<◌};
 ghost use Rattle.standard.specs.Bits.{M, bit_of, window};
 ghost use Rattle.standard.specs.Integrity.{T};
@@ -51,8 +53,8 @@ pub struct Moved {
 
 // A state with its cells laid on a run, once a call.
 pub fn lay(s: TagState, run: &mut [u32], pairs: &mut [u32]) -> Open
-    requires fact_1 { (length run.old ≡ 80) × (length pairs.old ≡ 80) }
-    requires fact_2 { Holds (stored_of s) }
+    requires room { (length run.old ≡ 80) × (length pairs.old ≡ 80) }
+    requires holds { Holds (stored_of s) }
     ensures { Stands run.new pairs.new result (stored_of s) }
 {
     let g = s.g;
@@ -73,9 +75,9 @@ pub fn lay(s: TagState, run: &mut [u32], pairs: &mut [u32]) -> Open
 
 // The state, with its cells taken back from the run.
 pub fn taken(run: &[u32], o: Open) -> TagState
-    requires fact_1 { 16 ≤ length run.now }
-    requires fact_2 { Low o.h }
-    requires fact_3 { o.start < 16 }
+    requires room { 16 ≤ length run.now }
+    requires halves { Low o.h }
+    requires start_fits { o.start < 16 }
     ensures { stored_of result ≡ stored_at run.now o }
 {
     let h = o.h;
@@ -110,8 +112,8 @@ pub fn wide_at(block: &[u8], at: usize) -> u64
 
 // The tag with the key pair's windows at the set bits of a block.
 pub fn tag_with(width: usize, key: [u64; 4], tag: [u64; 2], block: &[u8]) -> [u64; 2]
-    requires fact_1 { Width width }
-    requires fact_2 { width ≤ length block.now }
+    requires width_fits { Width width }
+    requires block_fits { width ≤ length block.now }
     ensures { result ≡ tag_words width (tag_of width tag ⊕ T (width * 8) (bit_of (width * 8 + width * 8) (key_of width key)) 0 (M block.now) (width * 8)) }
 {
     match width {
@@ -126,8 +128,8 @@ pub fn tag_with(width: usize, key: [u64; 4], tag: [u64; 2], block: &[u8]) -> [u6
 
 // The key pair moved up by half, with fresh words in its low half.
 pub fn key_on(width: usize, key: [u64; 4], words: [u64; 2]) -> [u64; 4]
-    requires fact_1 { Width width }
-    requires fact_2 { tag_of width words < 2 ^ (width * 8) }
+    requires width_fits { Width width }
+    requires tag_fits { tag_of width words < 2 ^ (width * 8) }
     ensures { result ≡ key_words width (key_of width key * 2 ^ (width * 8) % 2 ^ (width * 8 + width * 8) + tag_of width words) }
 {
     match width {
@@ -144,8 +146,8 @@ pub fn key_on(width: usize, key: [u64; 4], words: [u64; 2]) -> [u64; 4]
 
 // The keystream bits of a tag's width out of words drawn before, in the words of a tag.
 pub fn fresh_at(width: usize, words: &[u32], at: usize) -> [u64; 2]
-    requires fact_1 { Width width }
-    requires fact_2 { at + width / 4 ≤ length words.now }
+    requires width_fits { Width width }
+    requires words_fit { at + width / 4 ≤ length words.now }
     ensures { result ≡ tag_words width (window (bits_of words.now) (at * 32) (width * 8)) }
 {
     match width {
@@ -160,8 +162,8 @@ pub fn fresh_at(width: usize, words: &[u32], at: usize) -> [u64; 2]
 
 // A key pair out of words drawn before: its halves are moved in one after the other.
 pub fn key_at(width: usize, words: &[u32], at: usize) -> [u64; 4]
-    requires fact_1 { Width width }
-    requires fact_2 { at + width / 4 + width / 4 ≤ length words.now }
+    requires width_fits { Width width }
+    requires words_fit { at + width / 4 + width / 4 ≤ length words.now }
     ensures { result ≡ key_words width (window (bits_of words.now) (at * 32) (width * 8 + width * 8)) }
 {
     let high = fresh_at(width, words, at);

@@ -31,8 +31,8 @@ pub fn start_128(g: Zuc) -> TagState
 }
 
 pub fn start_256(width: usize, g: Zuc) -> TagState
-    requires fact_1 { Width width }
-    requires fact_2 { Ready (held_of g) }
+    requires width_fits { Width width }
+    requires ready { Ready (held_of g) }
     ensures { stored_of result ≡ packed width (begun-ZUC256 (width * 8) (held_of g)) }
 {
     let high = raised();
@@ -46,8 +46,8 @@ pub fn start_256(width: usize, g: Zuc) -> TagState
 
 // An update whose bytes all wait: no cell is laid.
 fn put_by(s: TagState, message: &[u8]) -> TagState
-    requires fact_1 { Holds (stored_of s) }
-    requires fact_2 { s.cnt + length message.now < s.width }
+    requires holds { Holds (stored_of s) }
+    requires fits { s.cnt + length message.now < s.width }
     ensures { stored_of result ≡ packed s.width (updated (s.width * 8) (tagging_of (stored_of s)) message.now) }
 {
     let g = s.g;
@@ -83,9 +83,9 @@ pub fn update(s: TagState, message: &[u8]) -> TagState
 }
 
 pub fn finish_128(s: TagState, tail: &[u8], l: usize) -> u32
-    requires fact_1 { Holds (stored_of s) }
-    requires fact_2 { s.width ≡ 4 }
-    requires fact_3 { l ≤ length tail.now * 8 }
+    requires holds { Holds (stored_of s) }
+    requires width_is { s.width ≡ 4 }
+    requires bits_fit { l ≤ length tail.now * 8 }
     ensures { result ≡ closed-EIA3 (tagging_of (stored_of s)) tail.now l }
 {
     let high = raised();
@@ -97,8 +97,8 @@ pub fn finish_128(s: TagState, tail: &[u8], l: usize) -> u32
 }
 
 pub fn finish_256(s: TagState, tail: &[u8], l: usize) -> [u64; 2]
-    requires fact_1 { Holds (stored_of s) }
-    requires fact_2 { l ≤ length tail.now * 8 }
+    requires holds { Holds (stored_of s) }
+    requires bits_fit { l ≤ length tail.now * 8 }
     ensures { result ≡ tag_words s.width (closed-ZUC256 (s.width * 8) (tagging_of (stored_of s)) tail.now l) }
 {
     let high = raised();
@@ -111,8 +111,8 @@ pub fn finish_256(s: TagState, tail: &[u8], l: usize) -> [u64; 2]
 
 // A whole message, from loaded cells on: no state is written between, and nothing is taken back.
 pub fn once_128(loaded: Loaded, message: &[u8], l: usize) -> u32
-    requires fact_1 { Cells loaded.s }
-    requires fact_2 { l ≤ length message.now * 8 }
+    requires cells { Cells loaded.s }
+    requires bits_fit { l ≤ length message.now * 8 }
     ensures { result ≡ closed-EIA3 (begun-EIA3 (from_zero (started (loaded_of loaded)))) message.now l }
 {
     let high = raised();
@@ -126,9 +126,9 @@ pub fn once_128(loaded: Loaded, message: &[u8], l: usize) -> u32
 
 // The same from a started state.
 pub fn once_256(width: usize, g: Zuc, message: &[u8], l: usize) -> [u64; 2]
-    requires fact_1 { Width width }
-    requires fact_2 { Ready (held_of g) }
-    requires fact_3 { l ≤ length message.now * 8 }
+    requires width_fits { Width width }
+    requires ready { Ready (held_of g) }
+    requires bits_fit { l ≤ length message.now * 8 }
     ensures { result ≡ tag_words width (closed-ZUC256 (width * 8) (begun-ZUC256 (width * 8) (held_of g)) message.now l) }
 {
     let high = raised();

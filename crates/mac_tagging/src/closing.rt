@@ -22,8 +22,8 @@ fn marked(b: u8, r: usize) -> u8
 
 // The block that closes a message: what waits, the bits left over marked, and zeros.
 fn last_block(waiting: [u8; 16], cnt: usize, tail: &[u8], q: usize, r: usize) -> [u8; 16]
-    requires fact_1 { cnt < 16 }
-    requires fact_2 { (r < 8) × (q * 8 + r ≤ length tail.now * 8) }
+    requires count_fits { cnt < 16 }
+    requires bits_fit { (r < 8) × (q * 8 + r ≤ length tail.now * 8) }
     ensures { result ≡ set waiting cnt (last_byte (drop q tail.now) r) }
 {
     let mut rem = waiting;
@@ -36,8 +36,8 @@ fn last_block(waiting: [u8; 16], cnt: usize, tail: &[u8], q: usize, r: usize) ->
 }
 
 fn last_tag(o: Open, tail: &[u8], q: usize, r: usize) -> [u64; 2]
-    requires fact_1 { Width o.width × (o.cnt < 16) }
-    requires fact_2 { (r < 8) × (q * 8 + r ≤ length tail.now * 8) }
+    requires width_fits { Width o.width × (o.cnt < 16) }
+    requires bits_fit { (r < 8) × (q * 8 + r ≤ length tail.now * 8) }
     ensures { Closes o (drop q tail.now) r result }
 {
     let waiting = o.rem;
@@ -57,10 +57,10 @@ pub fn close_256(
     tail: &[u8],
     l: usize,
 ) -> [u64; 2]
-    requires fact_1 { high.now ≡ raised_of S₀-table }
-    requires fact_2 { low.now ≡ S₁-table }
-    requires fact_3 { Opened run.old pairs.old o }
-    requires fact_4 { l ≤ length tail.now * 8 }
+    requires high { high.now ≡ raised_of S₀-table }
+    requires low { low.now ≡ S₁-table }
+    requires opened { Opened run.old pairs.old o }
+    requires bits_fit { l ≤ length tail.now * 8 }
     ensures { result ≡ tag_words o.width (closed-ZUC256 (o.width * 8) (tagging_of (stored_at run.old o)) tail.now l) }
 {
     let q = l / 8;
@@ -77,10 +77,10 @@ fn extra(
     o: Open,
     n: usize,
 ) -> u32
-    requires fact_1 { high.now ≡ raised_of S₀-table }
-    requires fact_2 { low.now ≡ S₁-table }
-    requires fact_3 { Opened run.old pairs.old o }
-    requires fact_4 { o.width ≡ 4 }
+    requires high { high.now ≡ raised_of S₀-table }
+    requires low { low.now ≡ S₁-table }
+    requires opened { Opened run.old pairs.old o }
+    requires width_is { o.width ≡ 4 }
     ensures { result ≡ extra_word (tagging_of (stored_at run.old o)) n }
 {
     let key = o.key;
@@ -103,11 +103,11 @@ pub fn close_128(
     tail: &[u8],
     l: usize,
 ) -> u32
-    requires fact_1 { high.now ≡ raised_of S₀-table }
-    requires fact_2 { low.now ≡ S₁-table }
-    requires fact_3 { Opened run.old pairs.old o }
-    requires fact_4 { o.width ≡ 4 }
-    requires fact_5 { l ≤ length tail.now * 8 }
+    requires high { high.now ≡ raised_of S₀-table }
+    requires low { low.now ≡ S₁-table }
+    requires opened { Opened run.old pairs.old o }
+    requires width_is { o.width ≡ 4 }
+    requires bits_fit { l ≤ length tail.now * 8 }
     ensures { result ≡ closed-EIA3 (tagging_of (stored_at run.old o)) tail.now l }
 {
     let q = l / 8;

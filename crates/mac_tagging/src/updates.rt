@@ -25,10 +25,10 @@ pub fn begin_128(
     h: Halves,
     start: usize,
 ) -> Open
-    requires fact_1 { high.now ≡ raised_of S₀-table }
-    requires fact_2 { low.now ≡ S₁-table }
-    requires fact_3 { AtRest run.old pairs.old h }
-    requires fact_4 { start < 16 }
+    requires high { high.now ≡ raised_of S₀-table }
+    requires low { low.now ≡ S₁-table }
+    requires at_rest { AtRest run.old pairs.old h }
+    requires start_fits { start < 16 }
     ensures { Stands run.new pairs.new result (packed 4 (begun-EIA3 (held_on run.old h start))) }
 {
     let mut words = [0u32; 2];
@@ -55,11 +55,11 @@ pub fn begin_256(
     start: usize,
     width: usize,
 ) -> Open
-    requires fact_1 { high.now ≡ raised_of S₀-table }
-    requires fact_2 { low.now ≡ S₁-table }
-    requires fact_3 { AtRest run.old pairs.old h }
-    requires fact_4 { start < 16 }
-    requires fact_5 { Width width }
+    requires high { high.now ≡ raised_of S₀-table }
+    requires low { low.now ≡ S₁-table }
+    requires at_rest { AtRest run.old pairs.old h }
+    requires start_fits { start < 16 }
+    requires width_fits { Width width }
     ensures { Stands run.new pairs.new result (packed width (begun-ZUC256 (width * 8) (held_on run.old h start))) }
 {
     let n = width / 4 * 3;
@@ -141,10 +141,10 @@ fn complete(
     o: Open,
     bytes: &[u8],
 ) -> Open
-    requires fact_1 { high.now ≡ raised_of S₀-table }
-    requires fact_2 { low.now ≡ S₁-table }
-    requires fact_3 { Opened run.old pairs.old o }
-    requires fact_4 { o.cnt + length bytes.now ≡ o.width }
+    requires high { high.now ≡ raised_of S₀-table }
+    requires low { low.now ≡ S₁-table }
+    requires opened { Opened run.old pairs.old o }
+    requires fills { o.cnt + length bytes.now ≡ o.width }
     ensures { Stands run.new pairs.new result (packed o.width (updated (o.width * 8) (tagging_of (stored_at run.old o)) bytes.now)) × (result.cnt ≡ 0) }
 {
     let h = o.h;
@@ -175,10 +175,10 @@ fn top_up(
     o: Open,
     message: &[u8],
 ) -> Moved
-    requires fact_1 { high.now ≡ raised_of S₀-table }
-    requires fact_2 { low.now ≡ S₁-table }
-    requires fact_3 { Opened run.old pairs.old o }
-    requires fact_4 { o.width ≤ o.cnt + length message.now }
+    requires high { high.now ≡ raised_of S₀-table }
+    requires low { low.now ≡ S₁-table }
+    requires opened { Opened run.old pairs.old o }
+    requires fills { o.width ≤ o.cnt + length message.now }
     ensures { Topped run.old o message.now run.new pairs.new result }
 {
     let cnt = o.cnt;
@@ -199,9 +199,9 @@ pub fn update(
     o: Open,
     message: &[u8],
 ) -> Open
-    requires fact_1 { high.now ≡ raised_of S₀-table }
-    requires fact_2 { low.now ≡ S₁-table }
-    requires fact_3 { Opened run.old pairs.old o }
+    requires high { high.now ≡ raised_of S₀-table }
+    requires low { low.now ≡ S₁-table }
+    requires opened { Opened run.old pairs.old o }
     ensures { Stands run.new pairs.new result (packed o.width (updated (o.width * 8) (tagging_of (stored_at run.old o)) message.now)) }
 {
     if message.len() < o.width - o.cnt {

@@ -1,5 +1,7 @@
 // Sums of windows at the set bits of a block, for tags of 64 and 128 bits: one table for each word of the key, and Horner's rule over the
 // bytes of the message's words. No branch goes by a message bit.
+#![tactic(auto)]
+
 ghost use Rattle.std.specs.Prelude.{length, [], ◌∷◌, ◌≡◌, ◌*◌, ◌≤◌, ◌<◌};
 ghost use Rattle.standard.specs.Bits.{M, window};
 ghost use Rattle.standard.specs.Integrity.{T};

@@ -33,8 +33,8 @@ fn mask_by(
     bits: usize,
     reach: Reach,
 )
-    requires fact_1 { length key.now ≡ 16 }
-    requires fact_2 { Enough (length buf.old) bits reach }
+    requires key_fits { length key.now ≡ 16 }
+    requires enough { Enough (length buf.old) bits reach }
     ensures { buf.new ≡ mask_clean (keystream (load₁₂₈ key.now (IV-EEA3 count bearer direction))) (end_of bits reach) buf.old }
 {
     let v = iv(count, bearer, direction);

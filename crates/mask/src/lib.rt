@@ -1,4 +1,6 @@
 // Masking in place by bit length (the crate's internal/stream_cipher.rs), in the crate's mode and in clean mode; EEA3 in one call is a module.
+#![tactic(auto)]
+
 ghost use Rattle.std.specs.Prelude.{false, ◌≡◌, ◌≤◌, ◌*◌, ◌+◌, length};
 ghost use Rattle.mask.specs.Inner.{Enough, InPlace, Reaches, cleared, drawn_from, end_of, zeroed};
 ghost use Rattle.mask.specs.Modes.{mask_outcome};
@@ -100,11 +102,11 @@ fn mask_standing(
     bits: usize,
     reach: Reach,
 ) -> Halves
-    requires fact_1 { high.now ≡ raised_of S₀-table }
-    requires fact_2 { low.now ≡ S₁-table }
-    requires fact_3 { Laid run.old pairs.old 0 }
-    requires fact_4 { Low start }
-    requires fact_5 { Enough (length buf.old) bits reach }
+    requires high { high.now ≡ raised_of S₀-table }
+    requires low { low.now ≡ S₁-table }
+    requires laid { Laid run.old pairs.old 0 }
+    requires halves { Low start }
+    requires enough { Enough (length buf.old) bits reach }
     ensures state { Standing run.new pairs.new 0 result (after reach.drawn (state_at run.old 0 start)) }
     ensures bytes { buf.new ≡ mask_clean (word_at (state_at run.old 0 start)) (end_of bits reach) buf.old }
 {
@@ -123,10 +125,10 @@ fn lay_on(
     run: &mut [u32],
     pairs: &mut [u32],
 ) -> Halves
-    requires fact_1 { high.now ≡ raised_of S₀-table }
-    requires fact_2 { low.now ≡ S₁-table }
-    requires fact_3 { (length run.old ≡ 80) × (length pairs.old ≡ 80) }
-    requires fact_4 { InPlace fresh z }
+    requires high { high.now ≡ raised_of S₀-table }
+    requires low { low.now ≡ S₁-table }
+    requires room { (length run.old ≡ 80) × (length pairs.old ≡ 80) }
+    requires in_place { InPlace fresh z }
     ensures { Standing run.new pairs.new 0 result (drawn_from fresh z) }
 {
     if fresh {
@@ -144,8 +146,8 @@ fn lay_on(
 // The mask by the same, and the state after a mask by a state; after any other nobody asks for it. Both forms of a call come here, so that
 // the loop has the run as its own: of a run that is lent no load could be moved before a store.
 fn mask_from(fresh: bool, z: Zuc, buf: &mut [u8], bits: usize, reach: Reach) -> Zuc
-    requires fact_1 { InPlace fresh z }
-    requires fact_2 { Enough (length buf.old) bits reach }
+    requires in_place { InPlace fresh z }
+    requires enough { Enough (length buf.old) bits reach }
     ensures state { fresh ≡ false → held_of result ≡ moved reach.drawn (held_of z) }
     ensures bytes { buf.new ≡ mask_clean (word_at (drawn_from fresh z)) (end_of bits reach) buf.old }
 {

@@ -1,5 +1,7 @@
 // Opens a stream of sealed frames, put end to end (request 2026-01): open CK IK < frames > bodies
 // CK and IK name files of 16 bytes. A line on standard error says each frame's fields.
+#![tactic(auto)]
+
 ghost use Rattle.std.specs.Prelude.{◌≡◌, length};
 
 use capi_answers::{BAD_KEY, frame_number};

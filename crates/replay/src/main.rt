@@ -1,5 +1,7 @@
 // The crate's recorded answers (standard input) held to the public calls: how many, and how many differ. After them some that are
 // altered, which must all differ.
+#![tactic(auto)]
+
 mod calls;
 mod record;
 

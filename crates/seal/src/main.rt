@@ -1,5 +1,7 @@
 // Seals a body (request 2026-01): seal CK IK COUNT BEARER DIRECTION [BITS] < body > frame
 // CK and IK name files of 16 bytes; the numbers are decimal; without BITS all bits of the body count.
+#![tactic(auto)]
+
 use capi_answers::{BAD_KEY, frame_number};
 use frame::FrameFields;
 use frame_files::decimal::{Number, at_most, is_written, number_in};

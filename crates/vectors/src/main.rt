@@ -1,5 +1,7 @@
 // A script of calls (standard input), run through the exported functions as C calls them and shown as a table. README.md says what its
 // lines are.
+#![tactic(auto)]
+
 mod calls;
 mod in_place;
 

@@ -1,5 +1,7 @@
 // Parts of slices, digits and bytes of words; the script's lines as text, what calls tell as text, arrays turned, and a table of rows: for
 // the programs.
+#![tactic(auto)]
+
 ghost use Rattle.std.specs.Prelude.{◌≤◌, length};
 
 pub mod table;

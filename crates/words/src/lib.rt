@@ -1,5 +1,7 @@
 // Helpers that the language lacks: rotation, bytes of a word, the high bits of a byte, a slice copied, a bit length held against a byte count,
 // a bearer and a direction against their fields, words against what is left.
+#![tactic(auto)]
+
 ghost use Rattle.std.specs.Prelude.{leb, length, ◌≡◌, ◌+◌, ◌*◌, ◌<◌, ◌≤◌};
 ghost use Rattle.standard.specs.Bits.{byte_of};
 ghost use Rattle.standard.specs.Confidentiality.{keep_high};

@@ -67,8 +67,8 @@ pub fn entry(table: &[u8; 256], b: u8) -> u8
 
 // S: the boxes S0, S1, S0, S1 on the bytes of x, highest first.
 pub fn sbox(t0: &[u8; 256], t1: &[u8; 256], x: u32) -> u32
-    requires fact_1 { t0.now ≡ S₀-table }
-    requires fact_2 { t1.now ≡ S₁-table }
+    requires first_box { t0.now ≡ S₀-table }
+    requires second_box { t1.now ≡ S₁-table }
     ensures { result ≡ S x }
 {
     word_of(

@@ -22,8 +22,8 @@ fn cell(k: u8, d: u32, iv: u8) -> u32
 
 // The loaded cells.
 pub fn load(key: &[u8], iv: &[u8]) -> Loaded
-    requires fact_1 { length key.now ≡ 16 }
-    requires fact_2 { length iv.now ≡ 16 }
+    requires key_fits { length key.now ≡ 16 }
+    requires iv_fits { length iv.now ≡ 16 }
     ensures { loaded_of result ≡ load₁₂₈ key.now iv.now }
 {
     let d = D;

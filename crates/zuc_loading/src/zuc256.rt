@@ -119,8 +119,8 @@ fn load_from(d: [u8; 16], x: [u8; 55]) -> Loaded
 
 // The loaded cells, with a row of constants.
 pub fn load(d: [u8; 16], key: &[u8], iv: &[u8]) -> Loaded
-    requires fact_1 { length key.now ≡ 32 }
-    requires fact_2 { length iv.now ≡ 23 }
+    requires key_fits { length key.now ≡ 32 }
+    requires iv_fits { length iv.now ≡ 23 }
     ensures { loaded_of result ≡ load₂₅₆ d key.now iv.now }
 {
     // an array, so that the load reads places that are known to be there

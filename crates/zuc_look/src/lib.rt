@@ -1,4 +1,6 @@
 // F for a draw alone: the boxes are one read-only table, and nothing is built on the stack.
+#![tactic(auto)]
+
 ghost use Rattle.std.specs.Prelude.{[], ◌∷◌, ◌++◌, ◌≡◌};
 ghost use Rattle.standard.specs.Boxes.{S₀-table, S₁-table};
 ghost use Rattle.standard.specs.Generator.{S};
