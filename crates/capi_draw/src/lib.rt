@@ -16,7 +16,7 @@ use zuc_look::f;
 const LIMIT: u32 = 134217730;
 
 // What a draw makes: the new cell, the registers, and the word.
-#[derive(Drop)]
+#[derive(Clone, Copy)]
 pub struct Turn {
     pub cell: u32,
     pub r1: u32,

@@ -13,7 +13,7 @@ use mac::Once128;
 use words::{byte_of, copy, fields_fit, keep_high, word_of};
 
 // What a call answers.
-#[derive(Drop)]
+#[derive(Clone, Copy)]
 pub enum FrameAnswer {
     Done,
     BadKey,
@@ -26,7 +26,7 @@ pub enum FrameAnswer {
 }
 
 // What a frame carries beside its body.
-#[derive(Drop)]
+#[derive(Clone, Copy)]
 pub struct FrameFields {
     pub count: u32,
     pub bearer: u8,
@@ -35,7 +35,7 @@ pub struct FrameFields {
 }
 
 // What a reader answers: the fields are zeros where it refuses.
-#[derive(Drop)]
+#[derive(Clone, Copy)]
 pub struct Opened {
     pub answer: FrameAnswer,
     pub fields: FrameFields,

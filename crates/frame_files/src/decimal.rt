@@ -3,7 +3,7 @@ ghost use Rattle.std.specs.Prelude.{true, ◌≡◌, ◌≤◌};
 ghost use Rattle.frame_files.specs.Decimal.{all_digits, at_most, is_written, number_in, sized, value_of};
 
 // A number of 32 bits, a larger one, or a word that is no number.
-#[derive(Drop)]
+#[derive(Clone, Copy)]
 pub enum Number {
     Is(u32),
     Above,

@@ -7,7 +7,7 @@ ghost use Rattle.standard.specs.Refusals.{key_test};
 use words::word_of;
 
 // The bytes that came before the end of a file, or before a read failed.
-#[derive(Drop)]
+#[derive(Clone, Copy)]
 pub struct Filled {
     pub bytes: usize,
     pub failed: bool,

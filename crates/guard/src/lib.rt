@@ -7,14 +7,14 @@ ghost use Rattle.guard.specs.Outcome.{accept_number, accept_outcome, link_of, re
 
 // A link: its highest COUNT, and which of the 64 counts ending there were accepted, bit i for COUNT highest - i. Zeros are a fresh one.
 #[repr(C)]
-#[derive(Drop)]
+#[derive(Clone, Copy)]
 pub struct Link {
     pub highest: u32,
     pub accepted: u64,
 }
 
 // The answer to a COUNT: accepted, or why it was refused.
-#[derive(Drop)]
+#[derive(Clone, Copy)]
 pub enum AcceptAnswer {
     Accepted,
     BadReuse,
@@ -23,14 +23,14 @@ pub enum AcceptAnswer {
 }
 
 // The answer to a re-keying: done, or why it was refused.
-#[derive(Drop)]
+#[derive(Clone, Copy)]
 pub enum RekeyAnswer {
     Rekeyed,
     BadLink,
 }
 
 // A COUNT held against one link: the answer, and the link after it, as it came where it was refused.
-#[derive(Drop)]
+#[derive(Clone, Copy)]
 struct Stepped {
     link: Link,
     answer: AcceptAnswer,
@@ -126,7 +126,7 @@ pub fn rekey(links: &mut [Link], at: usize) -> RekeyAnswer
 }
 
 // A table of four links by value, and the answer to a COUNT.
-#[derive(Drop)]
+#[derive(Clone, Copy)]
 pub struct Four {
     pub links: [Link; 4],
     pub answer: AcceptAnswer,

@@ -17,7 +17,7 @@ pub mod zuc128;
 pub mod zuc256;
 
 // A start's answer: accepted, or why it was refused.
-#[derive(Drop)]
+#[derive(Clone, Copy)]
 pub enum StartAnswer {
     Started,
     BadWidth,
@@ -27,14 +27,14 @@ pub enum StartAnswer {
 }
 
 // A start: its answer, and the generator, of zeros where it was refused.
-#[derive(Drop)]
+#[derive(Clone, Copy)]
 pub struct Start {
     pub answer: StartAnswer,
     pub state: Generator,
 }
 
 // A draw's answer: the word, or why it was refused.
-#[derive(Drop)]
+#[derive(Clone, Copy)]
 pub enum DrawAnswer {
     Word(u32),
     BadState,
@@ -42,14 +42,14 @@ pub enum DrawAnswer {
 }
 
 // A draw: its answer, and the state after it, the caller's where it was refused.
-#[derive(Drop)]
+#[derive(Clone, Copy)]
 pub struct Drew {
     pub answer: DrawAnswer,
     pub state: Generator,
 }
 
 // The answer of a fill: done, or why it was refused.
-#[derive(Drop)]
+#[derive(Clone, Copy)]
 pub enum FillAnswer {
     Filled,
     BadState,
@@ -57,7 +57,7 @@ pub enum FillAnswer {
 }
 
 // A fill: its answer, and the state after it, the caller's where it was refused.
-#[derive(Drop)]
+#[derive(Clone, Copy)]
 pub struct Filling {
     pub answer: FillAnswer,
     pub state: Generator,

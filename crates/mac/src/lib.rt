@@ -20,60 +20,60 @@ pub mod zuc256;
 
 // The state of a ZUC-128 or EIA3 tag, and that of a ZUC-256 tag: two types, so that neither is closed by the other's rule unawares.
 // Beside each, how many words its start has drawn (request 2026-09).
-#[derive(Drop)]
+#[derive(Clone, Copy)]
 pub struct Mac128 {
     pub state: TagState,
     pub count: usize,
 }
 
-#[derive(Drop)]
+#[derive(Clone, Copy)]
 pub struct Mac256 {
     pub state: TagState,
     pub count: usize,
 }
 
 // A start: its answer, and the state, of zeros where it was refused.
-#[derive(Drop)]
+#[derive(Clone, Copy)]
 pub struct Start128 {
     pub answer: StartAnswer,
     pub mac: Mac128,
 }
 
-#[derive(Drop)]
+#[derive(Clone, Copy)]
 pub struct Start256 {
     pub answer: StartAnswer,
     pub mac: Mac256,
 }
 
 // An update's answer: done, or why it was refused. Beside it the state after it, the caller's where it was refused.
-#[derive(Drop)]
+#[derive(Clone, Copy)]
 pub enum UpdateAnswer {
     Done,
     BadState,
     Spent,
 }
 
-#[derive(Drop)]
+#[derive(Clone, Copy)]
 pub struct Update {
     pub answer: UpdateAnswer,
     pub state: TagState,
     pub count: usize,
 }
 
-#[derive(Drop)]
+#[derive(Clone, Copy)]
 pub struct Update128 {
     pub answer: UpdateAnswer,
     pub mac: Mac128,
 }
 
-#[derive(Drop)]
+#[derive(Clone, Copy)]
 pub struct Update256 {
     pub answer: UpdateAnswer,
     pub mac: Mac256,
 }
 
 // A closing's answer: the tag, or why it was refused. Beside it a state of zeros, the caller's where it was refused.
-#[derive(Drop)]
+#[derive(Clone, Copy)]
 pub enum Tag128 {
     Tag(u32),
     BadState,
@@ -81,14 +81,14 @@ pub enum Tag128 {
     Spent,
 }
 
-#[derive(Drop)]
+#[derive(Clone, Copy)]
 pub struct Finish128 {
     pub answer: Tag128,
     pub mac: Mac128,
 }
 
 // A tag of 32 or 64 bits is the first word, and the second is 0; of one of 128 bits the first word is the high half.
-#[derive(Drop)]
+#[derive(Clone, Copy)]
 pub enum Tag256 {
     Tag(u64, u64),
     BadState,
@@ -96,14 +96,14 @@ pub enum Tag256 {
     Spent,
 }
 
-#[derive(Drop)]
+#[derive(Clone, Copy)]
 pub struct Finish256 {
     pub answer: Tag256,
     pub mac: Mac256,
 }
 
 // A one-shot's answer: the tag, or why it was refused.
-#[derive(Drop)]
+#[derive(Clone, Copy)]
 pub enum Once128 {
     Tag(u32),
     BadKey,
@@ -113,7 +113,7 @@ pub enum Once128 {
     Spent,
 }
 
-#[derive(Drop)]
+#[derive(Clone, Copy)]
 pub enum Once256 {
     Tag(u64, u64),
     BadWidth,

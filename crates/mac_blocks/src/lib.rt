@@ -14,7 +14,7 @@ ghost use Rattle.zuc_turn.specs.InnerRun.{raised_of};
 use mac_registers::{Moved, Open, fresh_at, key_on, tag_with};
 use zuc_bulk::{index_after, words_on};
 
-#[derive(Drop)]
+#[derive(Clone, Copy)]
 pub struct Fed {
     pub key: [u64; 4],
     pub tag: [u64; 2],

@@ -15,7 +15,7 @@ use zuc_bulk::{index_after, rest, smaller};
 use zuc_turn::{Halves, turn};
 
 // What the loop carries beside the run: the registers, the key pair and the tag; and the index at which the cells will start.
-#[derive(Drop)]
+#[derive(Clone, Copy)]
 pub struct Narrow {
     pub h: Halves,
     pub key: u64,

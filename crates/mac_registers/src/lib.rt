@@ -22,7 +22,7 @@ pub mod sums;
 
 // The generator, the key pair and the tag in 64-bit words (as many as the width asks, the others zero), the bytes that wait for a
 // block with zeros after them, their count, and the tag's width in bytes.
-#[derive(Drop)]
+#[derive(Clone, Copy)]
 pub struct TagState {
     pub g: Zuc,
     pub key: [u64; 4],
@@ -33,7 +33,7 @@ pub struct TagState {
 }
 
 // A tag in the making inside a call: as a TagState, but that its generator stands on a lent run, with the registers in halves.
-#[derive(Drop)]
+#[derive(Clone, Copy)]
 pub struct Open {
     pub h: Halves,
     pub start: usize,
@@ -45,7 +45,7 @@ pub struct Open {
 }
 
 // What is open, and the place in the message up to which it has taken the bytes in.
-#[derive(Drop)]
+#[derive(Clone, Copy)]
 pub struct Moved {
     pub o: Open,
     pub at: usize,

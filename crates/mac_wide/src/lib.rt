@@ -68,7 +68,7 @@ fn entry(table: &[u64; 16], n: usize) -> u64
 }
 
 // A register of two words.
-#[derive(Drop)]
+#[derive(Clone, Copy)]
 pub struct Two {
     pub x0: u64,
     pub x1: u64,
@@ -102,7 +102,7 @@ pub fn sum_64(k0: u64, k1: u64, block: &[u8]) -> u64
 }
 
 // A register of three words.
-#[derive(Drop)]
+#[derive(Clone, Copy)]
 pub struct Three {
     pub x0: u64,
     pub x1: u64,

@@ -14,7 +14,7 @@ use zuc_loading::eea3::iv;
 use zuc_loading::zuc128::load;
 
 // The words drawn, or why the call was refused.
-#[derive(Drop)]
+#[derive(Clone, Copy)]
 pub enum OnceAnswer {
     Done(usize),
     BadKey,

@@ -24,7 +24,7 @@ use zuc_turn::{Halves, raised};
 pub mod eea3;
 
 // What a call answers: the words drawn, or why it was refused.
-#[derive(Drop)]
+#[derive(Clone, Copy)]
 pub enum MaskAnswer {
     Done(usize),
     BadState,
@@ -33,7 +33,7 @@ pub enum MaskAnswer {
 }
 
 // The answer, and the state handed back.
-#[derive(Drop)]
+#[derive(Clone, Copy)]
 pub struct Masked {
     pub answer: MaskAnswer,
     pub state: Generator,
@@ -64,7 +64,7 @@ fn keep_bits(buf: &mut [u8], q: usize, k: usize)
 }
 
 // How far a mask reaches: how many high bits of byte floor(bits/8) are kept, how many bytes are masked, and how many words drawn.
-#[derive(Drop)]
+#[derive(Clone, Copy)]
 struct Reach {
     kept: usize,
     to: usize,

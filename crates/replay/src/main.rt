@@ -11,7 +11,7 @@ use libc::{STDIN_FILENO, STDOUT_FILENO};
 use vectors_parts::{digit, least, part};
 
 // A digit read: a first one waits (16 stands for none), a second one makes a byte whole.
-#[derive(Drop)]
+#[derive(Clone, Copy)]
 struct Nibble {
     high: u8,
     byte: u8,
@@ -59,7 +59,7 @@ fn pack(text: &mut [u8], n: usize) -> usize {
 }
 
 // Records run, how many of them differ, and the place after the list.
-#[derive(Drop)]
+#[derive(Clone, Copy)]
 struct Tally {
     records: u64,
     differ: u64,

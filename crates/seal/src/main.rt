@@ -10,7 +10,7 @@ use frame_files::told;
 use libc::{STDIN_FILENO, STDOUT_FILENO};
 
 // What the words of the command ask for: fields, or nothing that can be done.
-#[derive(Drop)]
+#[derive(Clone, Copy)]
 enum Asked {
     Fields(FrameFields),
     Nothing,

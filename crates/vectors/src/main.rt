@@ -13,7 +13,7 @@ use vectors_parts::text::{before, fits, line_at, place, rest, word, written_out}
 use vectors_parts::{byte_at, front, part};
 
 // What a call told, as text.
-#[derive(Drop)]
+#[derive(Clone, Copy)]
 struct Outcome {
     text: [u8; 4096],
     len: usize,
@@ -21,7 +21,7 @@ struct Outcome {
 
 // The rows so far, the place of the last call in the script and what it told; what was kept of an earlier one, and arrays as they were
 // saved.
-#[derive(Drop)]
+#[derive(Clone, Copy)]
 struct Progress {
     tally: Tally,
     at: usize,

@@ -5,7 +5,7 @@ use libc::STDOUT_FILENO;
 use std::num::wrapping_add_u64;
 
 // Rows that are right and that are wrong; and of the altered ones, which must differ, those found different and those missed.
-#[derive(Drop)]
+#[derive(Clone, Copy)]
 pub struct Tally {
     ok: u64,
     wrong: u64,

@@ -5,7 +5,7 @@ use super::{digit, front, least, part, put};
 use std::num::{wrapping_add_u64, wrapping_add_usize};
 
 // A pattern of a table: its number, from 0, and its place.
-#[derive(Drop)]
+#[derive(Clone, Copy)]
 pub struct Kind {
     pub number: usize,
     pub at: usize,

@@ -14,7 +14,7 @@ const K: usize = 0;
 const IV: usize = 32;
 
 // The places of a loaded cell's bytes: the one before its constant, and the two behind it.
-#[derive(Drop)]
+#[derive(Clone, Copy)]
 pub struct Places(pub usize, pub usize, pub usize);
 
 // The bytes of the loaded cells s0 to s15, as the paper lists them.
@@ -38,7 +38,7 @@ const PLACES: [Places; 16] = [
 ];
 
 // Four numbers of 6 bits.
-#[derive(Drop)]
+#[derive(Clone, Copy)]
 pub struct Sextets {
     pub a: u8,
     pub b: u8,

@@ -1,10 +1,9 @@
 -- `sum_128` meets its contract: after i turns each row has the last i bytes of both message words.
 use mathlib.Core.Path.{◌≡◌, refl, ap, ap₂, sym, ◌∙◌}
 use mathlib.Core.List.{List, [], ◌∷◌, ◌++◌}
-use Prim.Native.Nat.{ℕ, ◌+◌, ◌-◌, ◌*◌, ◌≤◌, ◌<◌}
+use Prim.Native.Nat.{ℕ, ◌+◌, ◌-◌, ◌*◌, ◌<◌}
 use lib.Bits.{bit_xor}
 use native.Mathlib.Omega.{arith}
-use borrow.Author.Rules.{rules}
 use Rattle.standard.specs.Notation.{◌⊕◌, ◌⟨◌⟩}
 use Rattle.standard.specs.Bits.{M, bit_at, window}
 use Rattle.standard.proofs.Linear.{M-lt}
@@ -13,24 +12,10 @@ use Rattle.standard.proofs.Window.{bit_at_lt}
 use Rattle.mac_wide.specs.InnerRows.{four_on, multiples_of, over, stream_of}
 use Rattle.mac_wide.proofs.Rows.{gathered-is, looked, looked-lt, row, row_more, turned, words_from}
 use Rattle.mac_wide.proofs.Tables.{word_more, word_none}
-use Rattle.mac_wide.proofs.sum_128.Statement.{statement}
-use Rattle.mac_wide.proofs.sum_128.Tie as tie
+use Rattle.mac_wide.proofs.sum_128.Goals as goal
 
 abbrev row_of : List ℕ → (ℕ → ℕ) → ℕ → List ℕ
 row_of key m i = words_from (row 192 (looked (stream_of key) m 2) i) 0 3
-
-abbrev invariant-loop : tie.invariant-loop
-invariant-loop k0 k1 k2 k3 block a b c d high₀ low₀ i₀ high low i =
-    (i ≤ 8)
-    × (high.x0 ∷ high.x1 ∷ high.x2 ∷ [] ≡ row_of (k0 ∷ k1 ∷ k2 ∷ k3 ∷ []) (M block) i)
-    × (low.x0 ∷ low.x1 ∷ low.x2 ∷ [] ≡ row_of (k0 ∷ k1 ∷ k2 ∷ k3 ∷ []) (four_on (M block)) i)
-
-abbrev decreases-loop : tie.decreases-loop
-decreases-loop k0 k1 k2 k3 block a b c d high₀ low₀ i₀ high low i = 8 - i
-
-loop-holds : tie.Need-loop-init invariant-loop decreases-loop
-unfolding row turned window
-loop-holds c = (omega arith, refl, refl)
 
 module _ (k0 k1 k2 k3 : ℕ) (m : ℕ → ℕ) (bits : (i : ℕ) → m i < 2) where
   abbrev word : ℕ → ℕ
@@ -47,47 +32,46 @@ module _ (k0 k1 k2 k3 : ℕ) (m : ℕ → ℕ) (bits : (i : ℕ) → m i < 2) wh
           ≡ window (looked (bit_at 64 word) m 2 i) (q * 64) 64
       looks q = word_more word m bits 1 q i _ p (word_more word m bits 0 q i 0 n (word_none word m bits i (q * 64)) en) ep
 
-loop-again : tie.Need-loop-preserved invariant-loop decreases-loop
-loop-again c =
-    let first-p = c.before.before.before.before.before in
-    let first-n = first-p.before in
-    let turn_low = first-n.before in
-    let last-p = turn_low.before.before.before.before.before in
-    let last-n = last-p.before in
-    let test = last-n.before in
-    let loop = test.before in
-    let l = loop.loop in
-    let t₃ = loop.before in
-    let t₂ = t₃.before in
-    let t₁ = t₂.before in
-    let t₀ = t₁.before in
-    let a = t₀.before.before.args in
+pub loop-i-init : goal.loop-i-init
+unfolding row turned window
+loop-i-init c = (omega arith, refl, refl)
+
+pub loop-i-preserved : goal.loop-i-preserved
+loop-i-preserved c =
+    let first-p = c in
+    let first-n = first-p in
+    let turn_low = first-n in
+    let last-p = turn_low in
+    let last-n = last-p in
+    let test = last-n in
+    let loop = test in
+    let l = loop.loop-i in
+    let t₃ = loop in
+    let t₂ = t₃ in
+    let t₁ = t₂ in
+    let t₀ = t₁ in
+    let a = t₀.args in
     let m : ℕ → ℕ = M a.block.now in
     let bits : (i : ℕ) → m i < 2 = M-lt a.block.now in (
-      omega (arith, test.loop-test.true),
-      more a.k0 a.k1 a.k2 a.k3 m bits l.i _ _ _ _ _ _ _ _ t₀.multiples.ensures t₁.multiples2.ensures t₂.multiples3.ensures t₃.multiples4.ensures
-          first-n.first-four.ensures first-p.first-four2.ensures l.invariant.1 c.turn-1282.ensures,
-      more a.k0 a.k1 a.k2 a.k3 (four_on m) (λ i. bits (4 + i)) l.i _ _ _ _ _ _ _ _ t₀.multiples.ensures t₁.multiples2.ensures t₂.multiples3.ensures
-          t₃.multiples4.ensures last-n.last-four.ensures last-p.last-four2.ensures l.invariant.2 turn_low.turn-128.ensures,
+      omega (arith, test.loop-i-test.true),
+      more a.k0 a.k1 a.k2 a.k3 m bits l.i _ _ _ _ _ _ _ _ t₀.multiples-a.ensures t₁.multiples-b.ensures t₂.multiples-c.ensures t₃.multiples-d.ensures
+          first-n.first_four-n.ensures first-p.first_four-m.ensures l.invariant.1 c.turn_128-high.ensures,
+      more a.k0 a.k1 a.k2 a.k3 (four_on m) (λ i. bits (4 + i)) l.i _ _ _ _ _ _ _ _ t₀.multiples-a.ensures t₁.multiples-b.ensures t₂.multiples-c.ensures
+          t₃.multiples-d.ensures last-n.last_four-n.ensures last-p.last_four-m.ensures l.invariant.2 turn_low.turn_128-low.ensures,
     )
 
-returns : tie.Need-returns invariant-loop decreases-loop
+pub returns : goal.returns
 returns c =
-    let second = c.before in
-    let first = second.before.before in
-    let loop = first.before.before in
-    let l = loop.loop in
-    let a = loop.before.before.before.before.before.before.args in
+    let second = c in
+    let first = second in
+    let loop = first in
+    let l = loop.loop-i in
+    let a = loop.args in
     let m : ℕ → ℕ = M a.block.now in
     let key : List ℕ = a.k0 ∷ a.k1 ∷ a.k2 ∷ a.k3 ∷ [] in
     let s : ℕ → ℕ = stream_of key in
     let bits : (i : ℕ) → s i < 2 = bit_at_lt 64 (λ j. key ⟨ j ⟩) in
     let both = gathered-is s bits m 2 2 l.i _ _ (omega (arith, l.invariant.0)) l.invariant.1 l.invariant.2 in (
       ap (bit_xor l.high.x0) first.up.ensures ∙ ap (λ (x : List ℕ). x ⟨ 0 ⟩) both ∙ sym (sum-window s bits m 128 0 64),
-      ap (bit_xor l.high.x1) second.up2.ensures ∙ ap (λ (x : List ℕ). x ⟨ 1 ⟩) both ∙ sym (sum-window s bits m 128 64 64),
+      ap (bit_xor l.high.x1) second.up-2.ensures ∙ ap (λ (x : List ℕ). x ⟨ 1 ⟩) both ∙ sym (sum-window s bits m 128 64 64),
     )
-
-pub sum-128-spec : {M : Type 1} → statement M
-sum-128-spec =
-    tie.close
-    (tie.spec invariant-loop decreases-loop (λ c κs. search rules) (λ c κs. search rules) (λ c κs. search rules) (λ c κs. search rules) loop-holds (λ c. search rules) (λ c κs. search rules) (λ c. search rules) (λ c κs. search rules) (λ c κs. search rules) (λ c. search rules) (λ c κs. search rules) (λ c. search rules) (λ c κs. search rules) (λ c κs. search rules) (λ c. search rules) (λ c. search rules) loop-again (λ c κs. search rules) (λ c κs. search rules) returns)

@@ -8,9 +8,7 @@ use Prim.Native.Nat.{ℕ, ◌+◌, ◌/◌, ◌%◌, ◌^◌, ◌<◌}
 use Rattle.standard.specs.Boxes.{S₀, S₁, S₀-table, S₁-table}
 use Rattle.standard.specs.Generator.{S}
 use Rattle.standard.specs.Notation.{◌‖₈◌, ◌⟨◌⟩, listed}
-use borrow.Author.Rules.{rules}
-use Rattle.zuc_look.proofs.both.Statement.{statement}
-use Rattle.zuc_look.proofs.both.Tie as tie
+use Rattle.zuc_look.proofs.both.Goals as goal
 
 abbrev joined : List ℕ
 joined = S₀-table ++ S₁-table
@@ -33,16 +31,11 @@ unfolding S
 S-is x =
     λ i. in-S₀ (x / 2 ^ 24 % 2 ^ 8) (omega arith) i ‖₈ in-S₁ (x / 2 ^ 16 % 2 ^ 8) i ‖₈ in-S₀ (x / 2 ^ 8 % 2 ^ 8) (omega arith) i ‖₈ in-S₁ (x % 2 ^ 8) i
 
-returns : tie.Need-returns
+pub returns : goal.returns
 unfolding listed
 returns c =
-    let first = c.before in
-    let at-entries = first.before in
-    let a = at-entries.before.args in
-    let b = at-entries.entries.ensures in
-    λ i. (first.word_of.ensures ∙ (λ j. four (b j) 0) ∙ S-is a.x) i ∷ (c.word-of2.ensures ∙ (λ j. four (b j) 4) ∙ S-is a.y) i ∷ []
-
-pub both-spec : {M : Type 1} → statement M
-both-spec =
-    tie.close
-    (tie.spec (λ c. search rules) (λ c. search rules) (λ c. search rules) (λ c. search rules) (λ c κs. search rules) (λ c. search rules) (λ c. search rules) (λ c. search rules) (λ c. search rules) (λ c κs. search rules) (λ c. search rules) (λ c. search rules) (λ c. search rules) (λ c. search rules) (λ c κs. search rules) returns)
+    let first = c in
+    let at-entries = first in
+    let a = at-entries.args in
+    let b = at-entries.entries-b.ensures in
+    λ i. (first.word_of.ensures ∙ (λ j. four (b j) 0) ∙ S-is a.x) i ∷ (c.word_of-2.ensures ∙ (λ j. four (b j) 4) ∙ S-is a.y) i ∷ []
