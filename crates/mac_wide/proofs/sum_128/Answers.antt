@@ -10,12 +10,10 @@ use Rattle.standard.proofs.Linear.{M-lt}
 use Rattle.standard.proofs.Register.{sum-window}
 use Rattle.standard.proofs.Window.{bit_at_lt}
 use Rattle.mac_wide.specs.InnerRows.{four_on, multiples_of, over, stream_of}
-use Rattle.mac_wide.proofs.Rows.{gathered-is, looked, looked-lt, row, row_more, turned, words_from}
+use Rattle.mac_wide.proofs.Rows.{gathered-is, looked, looked-lt, row, row_more, turned}
 use Rattle.mac_wide.proofs.Tables.{word_more, word_none}
+use Rattle.mac_wide.proofs.sum_128.Invariants.{row_of}
 use Rattle.mac_wide.proofs.sum_128.Goals as goal
-
-abbrev row_of : List ℕ → (ℕ → ℕ) → ℕ → List ℕ
-row_of key m i = words_from (row 192 (looked (stream_of key) m 2) i) 0 3
 
 module _ (k0 k1 k2 k3 : ℕ) (m : ℕ → ℕ) (bits : (i : ℕ) → m i < 2) where
   abbrev word : ℕ → ℕ

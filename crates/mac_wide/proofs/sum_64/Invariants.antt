@@ -1,11 +1,14 @@
 -- What the loop keeps.
 use mathlib.Core.Path.{◌≡◌}
-use mathlib.Core.List.{[], ◌∷◌}
-use Prim.Native.Nat.{◌-◌, ◌≤◌}
+use mathlib.Core.List.{List, [], ◌∷◌}
+use Prim.Native.Nat.{ℕ, ◌-◌, ◌≤◌}
 use Rattle.standard.specs.Bits.{M}
-use Rattle.mac_wide.specs.InnerRows.{four_on}
-use Rattle.mac_wide.proofs.Rows.{row}
+use Rattle.mac_wide.specs.InnerRows.{four_on, stream_of}
+use Rattle.mac_wide.proofs.Rows.{looked, row, words_from}
 use Rattle.mac_wide.proofs.sum_64.Given as goal
+
+abbrev pub row_of : List ℕ → (ℕ → ℕ) → ℕ → List ℕ
+row_of key m i = words_from (row 128 (looked (stream_of key) m 1) i) 0 2
 
 abbrev pub invariant-loop-i : goal.invariant-loop-i
 invariant-loop-i l =

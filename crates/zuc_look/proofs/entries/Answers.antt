@@ -17,7 +17,7 @@ loop-i-init c = (omega arith, search rules, search rules, below_none (λ k. _))
 pub loop-i-preserved : goal.loop-i-preserved
 loop-i-preserved c =
     let l = c.loop-i in
-    let at : List ℕ = c.args.t1 in
+    let at : List ℕ = c.args.at in
     (omega arith, l.invariant.1, simp length-set l.invariant.2, stored (λ k x. x ≡ (S₀-table ++ S₁-table) ⟨ at ⟨ k ⟩ ⟩) l.r l.i _ (omega arith) c.entry.ensures l.invariant.3)
 
 pub returns : goal.returns

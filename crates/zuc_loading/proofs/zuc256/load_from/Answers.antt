@@ -1,4 +1,5 @@
 -- `load_from` is the paper's list of cells: the bytes at the table's places are those that the list names, computed.
+-- the middles: constants p that stand alone, and constants d with bits beside them
 use lib.Bits.{or_zero_r}
 use lib.ListN.{drop, get_or, take}
 use mathlib.Core.List.{List, [], ◌∷◌, ◌++◌}
@@ -11,10 +12,8 @@ use Rattle.zuc_loading.specs.declared.zuc256.Places.{Places}
 use Rattle.standard.specs.Loading.{IV₂₅₆, cells₂₅₆, load₂₅₆}
 use Rattle.standard.specs.Notation.{◌‖₇◌, ◌‖₈◌, ◌∣◌, listed}
 use borrow.Author.Rules.{rules}
-use Rattle.zuc_loading.proofs.zuc256.load_from.Statement.{statement}
-use Rattle.zuc_loading.proofs.zuc256.load_from.Tie as tie
+use Rattle.zuc_loading.proofs.zuc256.load_from.Goals as goal
 
--- the middles: constants p that stand alone, and constants d with bits beside them
 abbrev middles : (ℕ → ℕ) → (ℕ → ℕ) → (ℕ → ℕ) → (ℕ → ℕ) → List ℕ
 middles K p d IV =
     listed p 0 5 ++ (listed (λ i. d i ∣ IV (12 + i)) 5 8 ++ (p 13 ∷ (d 14 ∣ K 31 / 2 ^ 4) ∷ (d 15 ∣ K 31 % 2 ^ 4) ∷ []))
@@ -31,16 +30,13 @@ joined_is places d b x k iv e f =
     (λ i. joined places d (f i) (e i))
     ∙ (λ i. around places (middles (λ n. get_or k n 0) (λ n. or_zero_r (get_or d n 0) i) (λ n. get_or d n 0) (IV₂₅₆ iv)) (spelled k iv))
 
-join-requires : tie.Need-join-requires
-join-requires c κs = inside _ refl
+pub join-s-requires : goal.join-s-requires
+join-s-requires c = inside _ refl
 
-returns : tie.Need-returns
+pub returns : goal.returns
 unfolding load₂₅₆ cells₂₅₆ IV₂₅₆ listed
 returns c =
-    let a = c.before.before.args in
-    let cells : c.join.result ≡ cells₂₅₆ (λ i. get_or (take 32 a.x) i 0) (λ i. get_or a.d i 0) (IV₂₅₆ (drop 32 a.x)) =
-    c.join.ensures ∙ joined_is _ a.d c.before.beside.result a.x (take 32 a.x) (drop 32 a.x) (apart a.x (search rules)) c.before.beside.ensures in
+    let a = c.args in
+    let cells : c.join-s.result ≡ cells₂₅₆ (λ i. get_or (take 32 a.x) i 0) (λ i. get_or a.d i 0) (IV₂₅₆ (drop 32 a.x)) =
+    c.join-s.ensures ∙ joined_is _ a.d c.beside-b.result a.x (take 32 a.x) (drop 32 a.x) (apart a.x (search rules)) c.beside-b.ensures in
     λ i. record { cells = cells i; R₁ = 0; R₂ = 0 }
-
-pub load-from-spec : {M : Type 1} → statement M
-load-from-spec = tie.close (tie.spec (λ c κs. search rules) join-requires returns)
