@@ -40,24 +40,24 @@ answer s r e = (e, λ t. formed-held (stored_of s.args.s) typed (sym e ∙ t))
           tag_small = λ i. (tag_fits s i).fits;
         }
 
-returns : tie.Need-returns
+returns : tie.Need-returns-then-not-is_well_formed
 unfolding formed
 returns c =
     let a = c.before in
-    answer a.before.before.before.before.before false (rw (sym a.is-well-formed.ensures ∙ not-true a.is-well-formed.result c.if1.true) refl)
+    answer a.before.before.before.before.before false (rw (sym a.is_well_formed.ensures ∙ not-true a.is_well_formed.result c.if-not-is_well_formed.true-raw) refl)
 
-returns-2 : tie.Need-returns-2
+returns-2 : tie.Need-returns-then-not-is_width
 unfolding formed
 returns-2 c =
     let b = c.before in
     let a = b.before.before in
     answer a.before.before.before.before.before false
     (rw (
-      sym a.is-well-formed.ensures ∙ not-false a.is-well-formed.result b.before.if1.false,
-      sym b.is-width.ensures ∙ not-true b.is-width.result c.if2.true,
+      sym a.is_well_formed.ensures ∙ not-false a.is_well_formed.result b.before.if-not-is_well_formed.false-raw,
+      sym b.is_width.ensures ∙ not-true b.is_width.result c.if-not-is_width.true-raw,
     ) refl)
 
-returns-3 : tie.Need-returns-3
+returns-3 : tie.Need-returns-then-not-unused_zero
 unfolding formed
 returns-3 c =
     let u = c.before in
@@ -65,12 +65,12 @@ returns-3 c =
     let a = b.before.before in
     answer a.before.before.before.before.before false
     (rw (
-      sym a.is-well-formed.ensures ∙ not-false a.is-well-formed.result b.before.if1.false,
-      sym b.is-width.ensures ∙ not-false b.is-width.result u.before.if2.false,
-      sym u.unused-zero.ensures ∙ not-true u.unused-zero.result c.if3.true,
+      sym a.is_well_formed.ensures ∙ not-false a.is_well_formed.result b.before.if-not-is_well_formed.false-raw,
+      sym b.is_width.ensures ∙ not-false b.is_width.result u.before.if-not-is_width.false-raw,
+      sym u.unused_zero.ensures ∙ not-true u.unused_zero.result c.if-not-unused_zero.true-raw,
     ) refl)
 
-returns-4 : tie.Need-returns-4
+returns-4 : tie.Need-returns-then-width-cnt
 unfolding formed
 returns-4 c =
     let u = c.before.before in
@@ -79,13 +79,13 @@ returns-4 c =
     let s = a.before.before.before.before.before in
     answer s false
     (rw (
-      sym a.is-well-formed.ensures ∙ not-false a.is-well-formed.result b.before.if1.false,
-      sym b.is-width.ensures ∙ not-false b.is-width.result u.before.if2.false,
-      sym u.unused-zero.ensures ∙ not-false u.unused-zero.result c.before.if3.false,
-      le-ltb s.args.s.cnt s.args.s.width c.if4.true,
+      sym a.is_well_formed.ensures ∙ not-false a.is_well_formed.result b.before.if-not-is_well_formed.false-raw,
+      sym b.is_width.ensures ∙ not-false b.is_width.result u.before.if-not-is_width.false-raw,
+      sym u.unused_zero.ensures ∙ not-false u.unused_zero.result c.before.if-not-unused_zero.false-raw,
+      le-ltb s.args.s.cnt s.args.s.width c.if-width-cnt.true,
     ) refl)
 
-returns-5 : tie.Need-returns-5
+returns-5 : tie.Need-returns
 unfolding formed
 returns-5 c =
     let f = c.before in
@@ -93,25 +93,14 @@ returns-5 c =
     let b = u.before.before in
     let a = b.before.before in
     let s = a.before.before.before.before.before in
-    answer s c.zero-from.result
-    (c.zero-from.ensures
+    answer s c.zero_from.result
+    (c.zero_from.ensures
     ∙ sym (rw (
-      sym a.is-well-formed.ensures ∙ not-false a.is-well-formed.result b.before.if1.false,
-      sym b.is-width.ensures ∙ not-false b.is-width.result u.before.if2.false,
-      sym u.unused-zero.ensures ∙ not-false u.unused-zero.result f.before.if3.false,
-      lt-ltb s.args.s.cnt s.args.s.width f.if4.false,
+      sym a.is_well_formed.ensures ∙ not-false a.is_well_formed.result b.before.if-not-is_well_formed.false-raw,
+      sym b.is_width.ensures ∙ not-false b.is_width.result u.before.if-not-is_width.false-raw,
+      sym u.unused_zero.ensures ∙ not-false u.unused_zero.result f.before.if-not-unused_zero.false-raw,
+      lt-ltb s.args.s.cnt s.args.s.width f.if-width-cnt.false,
     ) refl))
 
-pub is-formed-spec : {M : Type 1} → statement M
-is-formed-spec =
-    tie.close
-    (tie.spec
-    (λ c κs. search rules)
-    returns
-    (λ c κs. search rules)
-    returns-2
-    (λ c κs. search rules)
-    returns-3
-    returns-4
-    (λ c κs. search rules)
-    returns-5)
+pub is_formed_spec : {M : Type 1} → statement M
+is_formed_spec = tie.close (tie.spec (λ c. search rules) returns (λ c. search rules) returns-2 (λ c. search rules) returns-3 returns-4 (λ c. search rules) returns-5)

@@ -1,0 +1,35 @@
+-- `registers::forms::zero_from` meets its contract: the bytes passed are zero, so the rest decides.
+use mathlib.Core.Path.{refl, sym, ap, ◌∙◌}
+use Prim.Native.Nat.{◌-◌}
+use native.Mathlib.Omega.{arith}
+use lib.ListN.{drop, drop_of_length-le, length}
+use borrow.Author.Rules.{rules}
+use Rattle.standard.specs.States.{all_zero}
+use Rattle.mac_registers.proofs.Packed.{zero-next, zero-not}
+use Rattle.mac_registers.proofs.forms.zero_from.Goals as goal
+
+pub loop-i-init : goal.loop-i-init
+loop-i-init c = (search rules, refl)
+
+pub bounds-rem-i : goal.bounds-rem-i
+bounds-rem-i c = omega arith
+
+pub returns-then-rem-i-ne0 : goal.returns-then-rem-i-ne0
+returns-then-rem-i-ne0 c =
+    sym (c.loop-i.invariant.1 ∙ zero-not c.args.rem c.loop-i.i (omega arith) c.if-rem-i-ne0.true)
+
+pub overflow_add-i : goal.overflow_add-i
+overflow_add-i c = omega arith
+
+pub loop-i-smaller : goal.loop-i-smaller
+loop-i-smaller c = omega arith
+
+pub loop-i-preserved : goal.loop-i-preserved
+loop-i-preserved c =
+    (c.loop-i.invariant.0, c.loop-i.invariant.1 ∙ zero-next c.args.rem c.loop-i.i (omega arith) c.if-rem-i-ne0.false)
+
+pub returns : goal.returns
+unfolding all_zero
+returns c =
+    let m = c.args.rem in
+    sym (c.loop-i.invariant.1 ∙ ap all_zero (drop_of_length-le m {i = c.loop-i.i} (omega arith)))
