@@ -25,7 +25,5 @@ returns c =
     let is = ap (λ (s : List _). (s ++ (z.r1 ∷ z.r2 ∷ [])) ++ (z.start ∷ g.count ∷ [])) places in
     (is, ap held_in is ∙ array-held (counted_of g) (length_from z.start z.s ∙ full start))
 
-pub array-of-spec : {M : Type 1} → statement M
-array-of-spec =
-    tie.close
-    (tie.spec (λ c. search rules) (λ c. search rules) (λ c. search rules) (λ c. search rules) (λ c. search rules) (λ c. search rules) (λ c. search rules) (λ c. search rules) (λ c. search rules) (λ c. search rules) (λ c. search rules) (λ c. search rules) (λ c. search rules) (λ c. search rules) (λ c. search rules) (λ c. search rules) (λ c. omega (arith, c.before.before.before.requires.0)) (λ c. omega (arith, c.before.before.before.before.requires.1)) returns)
+pub array_of_spec : {M : Type 1} → statement M
+array_of_spec = tie.close (tie.spec (λ c. search rules) (λ c. search rules) (λ c. search rules) (λ c. search rules) (λ c. search rules) (λ c. search rules) (λ c. search rules) (λ c. search rules) (λ c. search rules) (λ c. search rules) (λ c. search rules) (λ c. search rules) (λ c. search rules) (λ c. search rules) (λ c. search rules) (λ c. search rules) (λ c. omega (arith, c.before.before.before.requires.0)) (λ c. omega (arith, c.before.before.before.before.requires.1)) returns)

@@ -41,13 +41,13 @@ fit s =
       rem = λ k. (byte_fits s k).fits;
     }
 
-wide-at-requires : tie.Need-wide-at-requires
-wide-at-requires c κs = omega (arith, (fit c.before.before.before.before.before.before).rem-full)
+wide-at-requires : tie.Need-wide_at-high-requires
+wide-at-requires c = omega (arith, (fit c.before.before.before.before.before.before).rem-full)
 
-wide-at-requires-2 : tie.Need-wide-at-requires-2
-wide-at-requires-2 c κs = omega (arith, (fit c.before.before.before.before.before.before.before.before).rem-full)
+wide-at-requires-2 : tie.Need-wide_at-low-requires
+wide-at-requires-2 c = omega (arith, (fit c.before.before.before.before.before.before.before.before).rem-full)
 
-words-full : (c : tie.After-words-of) → length c.words_of.result ≡ 9
+words-full : (c : tie.After-words_of-w) → length c.words_of-w.result ≡ 9
 words-full c = search rules
 
 returns : tie.Need-returns
@@ -59,14 +59,12 @@ returns c =
     let s = start.args.s in
     let is : _ ≡ tag_array_of (record { held = stored_of s; count = start.args.count }) =
     λ i.
-    (all_listed words.words_of.result 9 (words-full words) ∙ words.words_of.ensures) i
+    (all_listed words.words_of-w.result 9 (words-full words) ∙ words.words_of-w.ensures) i
     ++ (s.g.start
     ∷ start.args.count
     ∷ all_listed s.key 4 (fit start).key-full i
-    ++ (all_listed s.tag 2 (fit start).tag-full i ++ (first.wide_at.ensures i ∷ c.wide-at2.ensures i ∷ s.cnt ∷ s.width ∷ []))) in
+    ++ (all_listed s.tag 2 (fit start).tag-full i ++ (first.wide_at-high.ensures i ∷ c.wide_at-low.ensures i ∷ s.cnt ∷ s.width ∷ []))) in
     (is, ap stored_in is ∙ array-stored (record { held = stored_of s; count = start.args.count }) (fit start))
 
-pub tag-array-of-spec : {M : Type 1} → statement M
-tag-array-of-spec =
-    tie.close
-    (tie.spec (λ c κs. search rules) (λ c. search rules) wide-at-requires (λ c. search rules) wide-at-requires-2 (λ c. search rules) (λ c. search rules) (λ c. search rules) (λ c. search rules) (λ c. search rules) (λ c. search rules) (λ c. search rules) (λ c. search rules) (λ c. search rules) (λ c. search rules) (λ c. search rules) (λ c. search rules) (λ c. search rules) (λ c. search rules) (λ c. search rules) returns)
+pub tag_array_of_spec : {M : Type 1} → statement M
+tag_array_of_spec = tie.close (tie.spec (λ c. search rules) (λ c. search rules) wide-at-requires (λ c. search rules) wide-at-requires-2 (λ c. search rules) (λ c. search rules) (λ c. search rules) (λ c. search rules) (λ c. search rules) (λ c. search rules) (λ c. search rules) (λ c. search rules) (λ c. search rules) (λ c. search rules) (λ c. search rules) (λ c. search rules) (λ c. search rules) (λ c. search rules) (λ c. search rules) returns)

@@ -24,12 +24,12 @@ cut w left v h =
     (λ e. rw e (omega arith, omega arith, record { most = omega arith; within = omega arith; some = λ l. omega arith; count = left / 16; whole = omega arith }))
     o) v
 
-returns : tie.Need-returns
-returns c = full _ _ c.before.requires c.if1.true
+returns : tie.Need-returns-then-left-ge256
+returns c = full _ _ c.before.requires c.if-left-ge256.true
 
-short : (c : tie.Else1) → (0 < c.before.args.width) × (c.before.args.left % c.before.args.width ≤ c.before.args.left)
+short : (c : tie.Else-left-ge256) → (0 < c.before.args.width) × (c.before.args.left % c.before.args.width ≤ c.before.args.left)
     × Portion c.before.args.width c.before.args.left (c.before.args.left - c.before.args.left % c.before.args.width)
-short c = cut c.before.args.width c.before.args.left c.before.requires (omega (arith, c.if1.false))
+short c = cut c.before.args.width c.before.args.left c.before.requires (omega (arith, c.if-left-ge256.false))
 
-pub portion-spec : {M : Type 1} → statement M
-portion-spec = tie.close (tie.spec returns (λ c. (short c).0) (λ c. (short c).1) (λ c. (short c).2))
+pub portion_spec : {M : Type 1} → statement M
+portion_spec = tie.close (tie.spec returns (λ c. (short c).0) (λ c. (short c).1) (λ c. (short c).2))

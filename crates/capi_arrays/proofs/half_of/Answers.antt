@@ -3,14 +3,7 @@ use mathlib.Core.Path.{ap, ◌∙◌}
 use native.Mathlib.Omega.{arith}
 use Prim.Native.Nat.{ℕ, ◌/◌, ◌%◌, ◌^◌}
 use Rattle.capi_arrays.proofs.Regrouped.{cut_of}
-use borrow.Author.Rules.{rules}
-use Rattle.capi_arrays.proofs.half_of.Statement.{statement}
-use Rattle.capi_arrays.proofs.half_of.Tie as tie
+use Rattle.capi_arrays.proofs.half_of.Goals as goal
 
-returns : tie.Need-returns
+pub returns : goal.returns
 returns c = ap (λ (shift : ℕ). c.args.word / 2 ^ shift % 2 ^ 32) (omega arith) ∙ cut_of 64 32 c.args.word c.args.k (omega arith)
-
-pub half-of-spec : {M : Type 1} → statement M
-half-of-spec =
-    tie.close
-    (tie.spec (λ c. search rules) (λ c. search rules) (λ c. search rules) (λ c. search rules) returns)

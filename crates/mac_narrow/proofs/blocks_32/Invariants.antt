@@ -1,0 +1,16 @@
+-- What the loop keeps.
+use lib.ListN.{drop, length, take}
+use mathlib.Core.Path.{◌≡◌}
+use Prim.Native.Nat.{ℕ, ◌+◌, ◌*◌, ◌-◌, ◌≤◌}
+use Rattle.mac_registers.specs.Tagging.{updated}
+use Rattle.mac_narrow.specs.InnerNarrow.{Tagged, tagging_at}
+use Rattle.mac_narrow.proofs.blocks_32.Given as goal
+
+abbrev pub invariant-loop-i : goal.invariant-loop-i
+invariant-loop-i l =
+    (l.i ≤ length l.message)
+    × ((n : ℕ) × (l.i ≡ l.from + n * 4))
+    × Tagged l.run l.pairs l.s (updated 32 (tagging_at l.initial.run l.initial.s) (take (l.i - l.from) (drop l.from l.message)))
+
+abbrev pub decreases-loop-i : goal.decreases-loop-i
+decreases-loop-i l = length l.message - l.i

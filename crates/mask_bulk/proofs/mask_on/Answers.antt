@@ -1,0 +1,155 @@
+-- `mask_on`: at place i, a multiple of 4, the run stands for the state after i/4 words and the mask is left to do from i on; a lent part does its places.
+use lib.ListN.{drop, length, length-drop, length-take, take}
+use mathlib.Core.Path.{◌≡◌, refl, sym, ap, ◌∙◌, subst}
+use native.Mathlib.Omega.{arith}
+use Prim.Native.Nat.{ℕ, ◌+◌, ◌*◌, ◌-◌, ◌/◌}
+use Rattle.standard.proofs.Each.{from_end, from-start}
+use Rattle.standard.proofs.Generator.{after_none, word_after, word_at-after}
+use Rattle.standard.specs.Confidentiality.{masked}
+use Rattle.standard.specs.Generator.{State, after, word, word_at}
+use Rattle.zuc_bulk.proofs.Filling.{turn_on}
+use Rattle.zuc_turn.specs.InnerRun.{Standing, state_at}
+use Rattle.mask_bulk.proofs.Words.{alone, turn-masked}
+use Rattle.mask_bulk.proofs.mask_on.Goals as goal
+
+-- past the last word: the state that the run began with, and the one that it stands for once it is rested
+module _ (w : goal.After-rest invariant-loop decreases-loop) where
+  abbrev at_turn : goal.After-turn-last invariant-loop decreases-loop
+  at_turn = w
+
+  abbrev begun : State
+  begun = state_at at_turn.args.run.now 0 at_turn.args.start
+
+  abbrev place : ℕ
+  place = at_turn.loop.i
+
+  rested : Standing w.rest.last.0 w.rest.last.1.0 0 at_turn.turn.result.h (after at_turn.args.drawn begun)
+  unfolding after
+  rested =
+      let words = at_turn.pre.1.1.1.1 in
+      turn_on begun (place / 4) 1 at_turn.args.drawn at_turn.loop.inv.3 (w.rest.ensures _ _ at_turn.turn.ensures.standing) (omega (arith, words.0, words.1))
+
+pub loop-buf-init : goal.loop-buf-init
+loop-buf-init c =
+    let pre = c.requires in
+    (omega arith, refl, refl, record { laid = pre.laid; low = pre.halves; state = sym (after_none _) }, refl)
+
+pub overflow_sub-buf : goal.overflow_sub-buf
+overflow_sub-buf c =
+    omega arith
+
+pub overflow_sub-buf-in-loop-buf : goal.overflow_sub-buf-in-loop-buf
+overflow_sub-buf-in-loop-buf c =
+    omega arith
+
+pub overflow_mul-e : goal.overflow_mul-e
+overflow_mul-e c =
+    omega arith
+
+pub overflow_add-e : goal.overflow_add-e
+overflow_add-e c =
+    omega arith
+
+pub slice_bounds-mask_block-count : goal.slice_bounds-mask_block-count
+slice_bounds-mask_block-count c =
+    omega arith
+
+pub slice_bounds-mask_block-start : goal.slice_bounds-mask_block-start
+slice_bounds-mask_block-start c =
+    omega arith
+
+pub slice_bounds-mask_block-end : goal.slice_bounds-mask_block-end
+slice_bounds-mask_block-end c =
+    omega arith
+
+pub mask_block-h-requires : goal.mask_block-h-requires
+mask_block-h-requires c =
+    let pre = c.requires in
+    let standing = c.loop-buf.invariant.3 in
+    record { high = pre.high; low = pre.low; laid = standing.laid; halves = standing.low; part_fits = (simp (length-take, length-drop) (omega arith), simp (length-take, length-drop) (omega arith)) }
+
+pub loop-buf-smaller : goal.loop-buf-smaller
+loop-buf-smaller c =
+    omega arith
+
+pub loop-buf-preserved : goal.loop-buf-preserved
+loop-buf-preserved c =
+    let l = c.loop-buf in
+    let i : ℕ = l.i in
+    let e : ℕ = i + 4 * c.smaller.result in
+    let f = c.mask_block-h.ensures in
+    let far : i / 4 + length (take (e - i) (drop i l.buf)) / 4 ≡ e / 4 = simp (length-take, length-drop) (omega arith) in (
+      omega arith,
+      omega arith,
+      omega arith,
+      turn_on _ (i / 4) _ (e / 4) l.invariant.3 f.0 far,
+      turn-masked _ (i / 4) i e (omega arith) _ l.buf _ e (omega arith) (omega arith)
+          (λ n h. ap (λ (τ : State). word_at τ n) l.invariant.3.state ∙ word_at-after (i / 4) n _) f.1
+          ∙ l.invariant.4,
+    )
+
+pub shape_of-run-then-i-drawn : goal.shape_of-run-then-i-drawn
+shape_of-run-then-i-drawn c = c.loop-buf.invariant.3.laid.long ∙ sym c.requires.laid.long
+
+pub shape_of-pairs-then-i-drawn : goal.shape_of-pairs-then-i-drawn
+shape_of-pairs-then-i-drawn c = c.loop-buf.invariant.3.laid.wide ∙ sym c.requires.laid.wide
+
+pub shape_of-buf-then-i-drawn : goal.shape_of-buf-then-i-drawn
+shape_of-buf-then-i-drawn c =
+    omega arith
+
+pub returns-then-i-drawn : goal.returns-then-i-drawn
+returns-then-i-drawn c =
+    let l = c.loop-buf in
+    let σ : State = state_at c.args.run.now 0 c.args.start in (
+      subst (λ (n : ℕ). Standing l.run l.pairs 0 l.h (after n σ)) c.if-i-drawn.true l.invariant.3,
+      sym (from_end _ l.i l.buf (omega (arith, c.requires.buf_fits.0))) ∙ l.invariant.4 ∙ from-start _ _,
+    )
+
+pub turn-last-requires : goal.turn-last-requires
+turn-last-requires c =
+    let pre = c.requires in
+    let standing = c.loop-buf.invariant.3 in
+    record { high = pre.high; low = pre.low; laid = standing.laid; halves = standing.low; place_fits = omega arith }
+
+pub slice_bounds-xor_rest-count : goal.slice_bounds-xor_rest-count
+slice_bounds-xor_rest-count c =
+    omega arith
+
+pub slice_bounds-xor_rest-start : goal.slice_bounds-xor_rest-start
+slice_bounds-xor_rest-start c =
+    omega arith
+
+pub slice_bounds-xor_rest-end : goal.slice_bounds-xor_rest-end
+slice_bounds-xor_rest-end c =
+    omega arith
+
+pub xor_rest-requires : goal.xor_rest-requires
+xor_rest-requires c = simp (length-take, length-drop) (omega arith)
+
+pub rest-requires : goal.rest-requires
+rest-requires c =
+    let laid = c.turn-last.ensures.standing.laid in
+    record { room = (laid.long, laid.wide); place_fits = omega arith }
+
+pub shape_of-run : goal.shape_of-run
+shape_of-run c = (rested c).laid.long ∙ sym c.requires.laid.long
+
+pub shape_of-pairs : goal.shape_of-pairs
+shape_of-pairs c = (rested c).laid.wide ∙ sym c.requires.laid.wide
+
+pub shape_of-buf : goal.shape_of-buf
+shape_of-buf c = omega arith
+
+pub returns : goal.returns
+returns c =
+    let l = (at_turn c).loop in
+    let i : ℕ = l.i in
+    let n : ℕ = length l.buf in
+    let drawn = (at_turn c).turn.ensures.word ∙ ap word l.inv.3.state ∙ word_after (i / 4) (begun c) in (
+      rested c,
+      sym (from_end (masked (word_at (begun c))) n _ (omega (arith, same-length-6 c)))
+          ∙ turn-masked (begun c) (i / 4) i n (omega arith) _ l.buf _ n (omega arith) (omega arith) (alone (begun c) (i / 4) i n (omega arith) drawn (omega arith)) c.xor_rest.ensures
+          ∙ l.inv.4
+          ∙ from-start _ _,
+    )
