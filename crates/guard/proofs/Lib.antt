@@ -1,6 +1,4 @@
 pub mod Tables
-mod Lying
-mod Rows
 mod Stepping
 mod Histories
 pub mod Theorems

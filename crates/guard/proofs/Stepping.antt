@@ -45,9 +45,9 @@ module _ (link : Link) (COUNT : ℕ) where
   inside-fits h w new =
       subst (λ (l : Link). l.accepted < 2 ^ 64) (accepting-inside link COUNT h w (sym (standing-knows link COUNT h w) ∙ new)) (accepting-lt link COUNT)
 
-  pub old-is : 63 < top - COUNT → record { number = bad_age; link = link } ≡ step_outcome link COUNT
+  pub old_is : 63 < top - COUNT → record { number = bad_age; link = link } ≡ step_outcome link COUNT
   unfolding step_outcome tested
-  old-is h = rw (lt-leb top (COUNT + 63) (omega arith)) refl
+  old_is h = rw (lt-leb top (COUNT + 63) (omega arith)) refl
 
   pub again-is : COUNT ≤ top → top - COUNT < 64 → is_set (standing_bits link) (top - COUNT) ≡ true
       → record { number = bad_reuse; link = link } ≡ step_outcome link COUNT

@@ -9,7 +9,7 @@ use mathlib.Core.List.{List, [], ◌∷◌, ◌++◌}
 use mathlib.Core.Logic.{⊎_elim}
 use mathlib.Core.Path.{◌≡◌, ap, refl, sym, ◌∙◌}
 use native.Mathlib.Omega.{arith}
-use Prim.Native.Nat.{ℕ, ◌+◌, ◌-◌, ◌<◌, ◌≤◌}
+use Prim.Native.Nat.{ℕ, ◌+◌, ◌<◌, ◌≤◌}
 use Rattle.guard.proofs.Histories.{among-above, calls-held, held, held-knows}
 use Rattle.guard.specs.Outcome.{Guarded, accept_outcome, accepted_call, count_tests, link_at, refused_call, rekey_outcome}
 use Rattle.guard.specs.Runs.{Accept, Call, Calls, Elsewhere, NotRekeyed, Rekey, accept, among, highest_of, history_tests, none, rekey, since}

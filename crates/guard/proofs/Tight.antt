@@ -64,7 +64,7 @@ module _ {A : Type 0} (number_of : A → ℕ) (answer_of : ℕ → A) (back : (a
         (sym (links-back ys) ∙ ap (λ (o : Guarded). links_of o.table) e ∙ links-back ys') i,
       )
 
--- a function walked by hand has no `Reads`: what it promises and asks is read here, by the rules that read every other one
+-- what a call promises and asks, read here by the rules that read every other one; it is what Rattle reads, the `Post` of its `Reads`
 abbrev pub accept-read : (κs : Lfts 1) (a : ArgsD accept.signature κs) (r : ResD accept.signature κs) (s : AtExit accept.ended κs) (w : World)
     → ReadAt w (λ w. emp w.𝓤) no_know ((accept.clauses w.𝓛 w.𝓜.mem w.𝓡.run κs a).ensures tt r s)
 accept-read κs a r s w = r_last _

@@ -60,6 +60,7 @@ fn raised(bits: u64, up: u32) -> u64
 }
 
 // A COUNT above the highest moves the window; one inside it is set there, once.
+#[tactic(auto, using(crate::proofs::Stepping::old_is))]
 fn step(l: Link, count: u32) -> Stepped
     ensures { step_told result ≡ step_outcome (link_of l) count }
 {

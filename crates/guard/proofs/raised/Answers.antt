@@ -1,12 +1,10 @@
 -- `raised` is a product modulo 2^64: past 64 places nothing of it is left.
-use borrow.Author.Rules.{rules}
 use lib.Pow.{pow-add}
 use mathlib.Core.Path.{◌≡◌, ◌∙◌, ap, sym}
 use native.Mathlib.Nat.{mul_assoc, mul-mod_left}
 use native.Mathlib.Omega.{arith}
 use Prim.Native.Nat.{ℕ, ◌+◌, ◌-◌, ◌*◌, ◌%◌, ◌^◌, ◌≤◌}
-use Rattle.guard.proofs.raised.Statement.{statement}
-use Rattle.guard.proofs.raised.Tie as tie
+use Rattle.guard.proofs.raised.Goals as goal
 
 gone : (x k : ℕ) → 64 ≤ k → 0 ≡ x * 2 ^ k % 2 ^ 64
 gone x k h =
@@ -17,8 +15,5 @@ gone x k h =
     e : k ≡ k - 64 + 64
     e = omega arith
 
-returns-2 : tie.Need-returns-2
-returns-2 c = gone c.before.args.bits c.before.args.up (omega arith)
-
-pub raised-spec : {M : Type 1} → statement M
-raised-spec = tie.close (tie.spec (λ c. search rules) (λ c. search rules) returns-2)
+pub returns : goal.returns
+returns c = gone c.args.bits c.args.up (omega arith)
