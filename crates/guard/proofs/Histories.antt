@@ -17,7 +17,7 @@ use Rattle.standard.proofs.Each.{place}
 use Rattle.standard.proofs.Guard.{fresh-over, knows-above, knows_over, over-on}
 use Rattle.standard.proofs.Tested.{AllPass, Numbered, decided, passed}
 use Rattle.standard.specs.Guard.{Link, accepting, fresh, knows, link_over, window_counts}
-use Rattle.standard.specs.Notation.{if◌then◌else◌}
+use Rattle.std.specs.Prelude.{if◌then◌else◌}
 use Rattle.standard.specs.Refusals.{Test, accepted, link_test, tested}
 
 -- the link over some counts

@@ -16,7 +16,7 @@ use Rattle.guard.specs.Runs.{Accept, Call, Calls, Elsewhere, NotRekeyed, Rekey, 
 use Rattle.standard.proofs.Each.{place}
 use Rattle.standard.proofs.Tested.{Numbered, accepted-passed, decided, passed, tested-map}
 use Rattle.standard.specs.Guard.{Link, accepting, fresh, knows, link_over}
-use Rattle.standard.specs.Notation.{if◌then◌else◌}
+use Rattle.std.specs.Prelude.{if◌then◌else◌}
 use Rattle.standard.specs.Refusals.{Test, accepted, age_test, link_test, reuse_test, tested}
 
 -- the tests of a link by the tests of its history

@@ -12,7 +12,7 @@ use mathlib.Core.Path.{◌≡◌, ◌∙◌, ap, refl, sym}
 use Prim.Native.Nat.{ℕ}
 use Rattle.standard.proofs.Promise.{Tight}
 use Rattle.standard.specs.Guard.{Link}
-use Rattle.standard.specs.Notation.{if◌then◌else◌}
+use Rattle.std.specs.Prelude.{if◌then◌else◌}
 use Rattle.standard.specs.Refusals.{accepted, bad_age, bad_reuse}
 use Rattle.guard.specs.contracts.accept as accept
 use Rattle.guard.specs.contracts.accept_in as accept-in

@@ -1,8 +1,7 @@
 -- Calls on one table, one after the other, as their contracts tell them: accept and re-key, on any links, in any order, accepted and refused.
-use Rattle.std.specs.Prelude.{eqb, ltb, Bool, false, ◌&&◌, ◌||◌, List, [], ◌∷◌, ◌≡◌, ℕ, max}
+use Rattle.std.specs.Prelude.{eqb, ltb, Bool, false, ◌&&◌, ◌||◌, List, [], ◌∷◌, ◌≡◌, ℕ, max, if◌then◌else◌}
 use Rattle.guard.specs.Outcome.{Guarded, accept_outcome, rekey_outcome}
 use Rattle.standard.specs.Guard.{Link}
-use Rattle.standard.specs.Notation.{if◌then◌else◌}
 use Rattle.standard.specs.Refusals.{Test, accepted, age_test, bad_link, reuse_test}
 
 -- a call and the number that it answered: accept (at, COUNT), re-key (at). A log has the last call first

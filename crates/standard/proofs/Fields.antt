@@ -11,7 +11,7 @@ use lib.Dec.{leb, lit<}
 use lib.ListN.{length}
 use Rattle.standard.specs.Confidentiality.{IV-EEA3, bytes_iv-EEA3}
 use Rattle.standard.specs.Integrity.{IV-EIA3, bytes_iv-EIA3}
-use Rattle.standard.specs.Notation.{if◌then◌else◌}
+use Rattle.std.specs.Prelude.{if◌then◌else◌}
 use Rattle.standard.specs.Refusals.{Test, accepted, bad_field, bad_key, field_test, key_test, tested}
 use Rattle.standard.proofs.Table.{and_left, and_right}
 use Rattle.standard.proofs.Tested.{AllPass, Numbered, Without, accepted-exactly, accepted-is, never-told}

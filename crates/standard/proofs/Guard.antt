@@ -11,7 +11,7 @@ use lib.Dec.{eqb, leb}
 use lib.Pow.{high, low, mod-pow-add, pow-add, shl_lt}
 use borrow.Author.Tests.{eq-eqb, le-leb, lt-leb, lt-ltb, ne_eqb}
 use Rattle.standard.specs.Guard.{Link, accepting, fresh, gathered, is_set, knows, link_over, window_counts}
-use Rattle.standard.specs.Notation.{if◌then◌else◌}
+use Rattle.std.specs.Prelude.{if◌then◌else◌}
 use Rattle.standard.proofs.Each.{place}
 
 -- one bit more

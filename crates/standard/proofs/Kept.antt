@@ -8,7 +8,8 @@ use lib.Bits.{xor_shr, shifted_even}
 use lib.Dec.{ltb, eqb}
 use lib.Pow.{pow-add, shl-shr, shr-shr, split}
 use borrow.Author.Tests.{lt-ltb, le-ltb, eq-eqb, ne_eqb}
-use Rattle.standard.specs.Notation.{◌⊕◌, if◌then◌else◌}
+use Rattle.std.specs.Prelude.{if◌then◌else◌}
+use Rattle.standard.specs.Notation.{◌⊕◌}
 use Rattle.standard.specs.Bits.{bit_of}
 use Rattle.standard.specs.Confidentiality.{keep_high, kept_by_crate, kept_by_clean}
 use Rattle.standard.proofs.Xor.{xor_assoc}

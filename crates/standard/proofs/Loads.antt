@@ -15,7 +15,8 @@ use lib.Pow.{pow_mono}
 use Rattle.standard.specs.Bits.{M, bit_of, window}
 use Rattle.standard.specs.Generator.{State}
 use Rattle.standard.specs.Loading.{D, IV₂₅₆, cells₂₅₆, d-keystream, d-tag₁₂₈, d-tag₃₂, d-tag₆₄, load₁₂₈, load₂₅₆}
-use Rattle.standard.specs.Notation.{◌⟨◌⟩, ◌∣◌, ◌‖₁₅◌, ◌‖₇◌, ◌‖₈◌, if◌then◌else◌, listed}
+use Rattle.std.specs.Prelude.{if◌then◌else◌}
+use Rattle.standard.specs.Notation.{◌⟨◌⟩, ◌∣◌, ◌‖₁₅◌, ◌‖₇◌, ◌‖₈◌, listed}
 use Rattle.standard.proofs.Linear.{M-lt}
 use Rattle.standard.proofs.Listed.{get_or-listed, length-listed}
 use Rattle.standard.proofs.Parts.{OfBytes, or-parted, parted, same_entries}

@@ -1,6 +1,6 @@
 -- 128-EEA3 (Document 1, section 3) and masking by bit length (document 01, "Masking").
-use Rattle.std.specs.Prelude.{List, [], ◌∷◌, ◌++◌, ℕ, ◌+◌, ◌-◌, ◌*◌, ◌/◌, ◌%◌, ◌^◌, min, ltb, eqb}
-use Rattle.standard.specs.Notation.{◌⊕◌, ceil, if◌then◌else◌, each_from}
+use Rattle.std.specs.Prelude.{List, [], ◌∷◌, ◌++◌, ℕ, ◌+◌, ◌-◌, ◌*◌, ◌/◌, ◌%◌, ◌^◌, min, ltb, eqb, if◌then◌else◌}
+use Rattle.standard.specs.Notation.{◌⊕◌, ceil, each_from}
 use Rattle.standard.specs.Bits.{byte_of, bytes_of}
 
 -- 3.3 (initialisation): IV[0..3] = COUNT; IV[4] = BEARER || DIRECTION || 00; IV[5..7] = 0; IV[8..15] = IV[0..7]

@@ -1,5 +1,5 @@
 -- The worked examples P1..P11 of document 01, each case of each: what a definition gives, and what it must be. A number is a list of one.
-use Rattle.std.specs.Prelude.{List, [], ◌∷◌, ◌++◌, ℕ, ◌+◌, get_or, replicate}
+use Rattle.std.specs.Prelude.{List, [], ◌∷◌, ◌++◌, ℕ, get_or, replicate}
 use Rattle.standard.specs.Generator.{State, s₁₆, S, L₁, L₂, W, F}
 use Rattle.standard.specs.Loading.{IV₂₅₆}
 use Rattle.standard.specs.Confidentiality.{IV-EEA3, mask_crate, mask_clean}

@@ -1,7 +1,6 @@
 -- No block twice (request 2026-03): which counts a link of a guard's table knows as accepted, and the link that a call makes of it.
 -- COUNT is a number of 32 bits, and does not wrap: nothing here is reckoned modulo 2^32.
-use Rattle.std.specs.Prelude.{Bool, ◌&&◌, ◌||◌, ℕ, zero, suc, ◌+◌, ◌-◌, ◌/◌, ◌%◌, ◌^◌, max, eqb, leb, ltb}
-use Rattle.standard.specs.Notation.{if◌then◌else◌}
+use Rattle.std.specs.Prelude.{Bool, ◌&&◌, ◌||◌, ℕ, zero, suc, ◌+◌, ◌-◌, ◌/◌, ◌%◌, ◌^◌, max, eqb, leb, ltb, if◌then◌else◌}
 
 -- "64 counts ending there": the counts of a window
 abbrev pub window_counts : ℕ

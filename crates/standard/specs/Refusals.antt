@@ -1,8 +1,7 @@
 -- The table of refusal numbers (document 01, "Refusal numbers, in order of checking"), and what deciding by it means.
 -- Each number is given when, and only when, the words beside it hold and no test before it failed. Later requests add theirs here.
 -- Document 01's are checked in rising order; a request says its own order.
-use Rattle.std.specs.Prelude.{Bool, ◌&&◌, not, List, [], ◌∷◌, ℕ, ◌+◌, ◌*◌, eqb, leb, ltb, length}
-use Rattle.standard.specs.Notation.{if◌then◌else◌}
+use Rattle.std.specs.Prelude.{Bool, ◌&&◌, not, List, [], ◌∷◌, ℕ, ◌+◌, ◌*◌, eqb, leb, ltb, length, if◌then◌else◌}
 use Rattle.standard.specs.Integrity.{is_width}
 use Rattle.standard.specs.States.{limit}
 

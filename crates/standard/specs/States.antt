@@ -1,6 +1,6 @@
 -- What a call is lent and hands back as a state, and when it is malformed (document 01, "Refusal numbers"; refused by 4).
-use Rattle.std.specs.Prelude.{Bool, true, ◌&&◌, List, [], ◌∷◌, ℕ, zero, suc, ◌+◌, ◌-◌, ◌/◌, ◌%◌, ◌^◌, eqb, leb, ltb, drop, length, replicate}
-use Rattle.standard.specs.Notation.{◌⟨◌⟩, if◌then◌else◌}
+use Rattle.std.specs.Prelude.{Bool, true, ◌&&◌, List, [], ◌∷◌, ℕ, zero, suc, ◌+◌, ◌-◌, ◌/◌, ◌%◌, ◌^◌, eqb, leb, ltb, drop, length, replicate, if◌then◌else◌}
+use Rattle.standard.specs.Notation.{◌⟨◌⟩}
 use Rattle.standard.specs.Generator.{State, next}
 use Rattle.standard.specs.Integrity.{is_width}
 
