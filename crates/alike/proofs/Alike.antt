@@ -8,7 +8,7 @@ use borrow.Author.Tests.{lt-ltb}
 use lib.Dec.{leb}
 use lib.ListN.{length}
 use Rattle.standard.specs.Generator.{F, LFSRWithWorkMode, after, next, work_step}
-use Rattle.standard.specs.Notation.{if◌then◌else◌}
+use Rattle.std.specs.Prelude.{if◌then◌else◌}
 use Rattle.standard.specs.Refusals.{Test, tested}
 use Rattle.standard.specs.States.{Counted, Held, drawn_on, generator_formed, held_formed, limit, moved, well_formed}
 use Rattle.standard.proofs.Held.{moved-meaning, start-lt}

@@ -9,7 +9,8 @@ use lib.ListN.{drop, length, replicate, take}
 use Rattle.standard.specs.Bits.{M, bit_of, window, z}
 use Rattle.standard.specs.Generator.{word, word_at}
 use Rattle.standard.specs.Integrity.{T, is_width, words_to_close-EIA3, words_to_close-ZUC256, words_to_update}
-use Rattle.standard.specs.Notation.{◌⊕◌, if◌then◌else◌}
+use Rattle.std.specs.Prelude.{if◌then◌else◌}
+use Rattle.standard.specs.Notation.{◌⊕◌}
 use Rattle.standard.specs.States.{Counted, Stored, all_zero, formed, formed-128, limit, tag_formed, unused}
 use Rattle.mac.specs.Calls.{close_words-128, close_words-256, taken_in, update_words}
 use Rattle.mac_registers.specs.Stored.{key_of, key_words, packed, tag_of, tag_words, tagging_of}

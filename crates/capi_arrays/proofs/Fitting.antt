@@ -17,7 +17,8 @@ use Rattle.mac_registers.specs.Tagging.{Tagging, absorbed, begun-EIA3, begun-ZUC
 use Rattle.standard.proofs.Cells.{Cells}
 use Rattle.standard.proofs.Permutation.{S₀-permutation, S₁-permutation}
 use Rattle.standard.specs.Generator.{F, S, State, initialised, next, started, work_step}
-use Rattle.standard.specs.Notation.{◌⟨◌⟩, if◌then◌else◌}
+use Rattle.std.specs.Prelude.{if◌then◌else◌}
+use Rattle.standard.specs.Notation.{◌⟨◌⟩}
 use Rattle.standard.specs.States.{Counted, Held, Stored, from_zero, moved}
 
 -- registers of 32 bits: those of every state at rest

@@ -5,7 +5,7 @@ use mathlib.Core.Path.{◌≡◌, refl, sym, ap, ◌∙◌}
 use Prim.Native.Nat.{ℕ}
 use lib.Dec.{eqb}
 use Rattle.standard.proofs.Promise.{AsksNothing, Tight}
-use Rattle.standard.specs.Notation.{if◌then◌else◌}
+use Rattle.std.specs.Prelude.{if◌then◌else◌}
 use Rattle.standard.specs.Refusals.{accepted, bad_body, bad_field, bad_frame, bad_key, bad_length, spent}
 use Rattle.frame.specs.declared.FrameAnswer.{FrameAnswer}
 use Rattle.frame.specs.declared.FrameAnswer.TheVariants.{Done, BadKey, BadFrame, BadLength, BadField, BadBody, Spent, BadTag}

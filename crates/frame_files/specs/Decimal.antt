@@ -1,6 +1,5 @@
 -- Words as numbers in decimal digits.
-use Rattle.std.specs.Prelude.{Bool, true, false, ◌&&◌, List, [], ◌∷◌, ℕ, ◌+◌, ◌-◌, ◌*◌, min, leb, ltb, length}
-use Rattle.standard.specs.Notation.{if◌then◌else◌}
+use Rattle.std.specs.Prelude.{Bool, true, false, ◌&&◌, List, [], ◌∷◌, ℕ, ◌+◌, ◌-◌, ◌*◌, min, leb, ltb, length, if◌then◌else◌}
 use Rattle.frame_files.specs.declared.decimal.Number.{Number}
 use Rattle.frame_files.specs.declared.decimal.Number.TheVariants.{Is, Above, NotDigits}
 

@@ -11,7 +11,8 @@ use lib.Dec.{eqb, leb, lit<}
 use lib.ListN.{length}
 use Rattle.standard.specs.Frame.{body_in, fields_in, masked_body, tag_in, tag_over, two_at, with_body}
 use Rattle.standard.specs.Integrity.{drawn_by_tag-EIA3}
-use Rattle.standard.specs.Notation.{◌⟨◌⟩, if◌then◌else◌}
+use Rattle.std.specs.Prelude.{if◌then◌else◌}
+use Rattle.standard.specs.Notation.{◌⟨◌⟩}
 use Rattle.standard.specs.Refusals.{Test, accepted, bad_frame, bad_key, bad_length, bad_tag, key_test, spent, tested}
 use Rattle.standard.specs.States.{limit}
 use Rattle.standard.proofs.Fields.{field-passed, field-passes}

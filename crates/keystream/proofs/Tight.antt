@@ -13,7 +13,7 @@ use Prim.Native.Nat.{ℕ}
 use Rattle.zuc.proofs.Turning.{counted-once}
 use Rattle.zuc.specs.declared.Generator.{Generator}
 use Rattle.standard.proofs.Promise.{AsksNothing, Tight}
-use Rattle.standard.specs.Notation.{if◌then◌else◌}
+use Rattle.std.specs.Prelude.{if◌then◌else◌}
 use Rattle.standard.specs.Refusals.{accepted, bad_iv, bad_key, bad_state, bad_width}
 use Rattle.keystream.proofs.eea3.new.Reads as eea3-new
 use Rattle.keystream.proofs.eea3.new_strict.Reads as eea3-new-strict

@@ -12,7 +12,7 @@ use lib.ListN.{length, take}
 use lib.Seq.{length-take-le}
 use borrow.Author.Tests.{eq-eqb, ne_eqb}
 use Rattle.standard.specs.Integrity.{words_to_close-ZUC256, words_to_update}
-use Rattle.standard.specs.Notation.{if◌then◌else◌}
+use Rattle.std.specs.Prelude.{if◌then◌else◌}
 use Rattle.standard.specs.States.{Stored, moved}
 use Rattle.standard.proofs.Held.{moved_more}
 use Rattle.mac_registers.specs.Inner.{Holds, extra_state}

@@ -7,7 +7,7 @@ use native.Mathlib.Nat.{add-zero}
 use native.Mathlib.Omega.{arith}
 use lib.Dec.{leb}
 use lib.ListN.{length}
-use Rattle.standard.specs.Notation.{if◌then◌else◌}
+use Rattle.std.specs.Prelude.{if◌then◌else◌}
 use Rattle.standard.specs.Refusals.{accepted, bad_bits, bad_state, spent, tested}
 use Rattle.standard.specs.States.{Counted, Stored, formed, formed-128, from_start, limit, tag_formed, zero_stored}
 use Rattle.standard.proofs.Table.{and_right}

@@ -9,7 +9,7 @@ use Rattle.standard.specs.Confidentiality.{IV-EEA3}
 use Rattle.standard.specs.Generator.{State}
 use Rattle.standard.specs.Integrity.{IV-EIA3}
 use Rattle.standard.specs.Loading.{load₁₂₈, load₂₅₆, row_of}
-use Rattle.standard.specs.Notation.{if◌then◌else◌}
+use Rattle.std.specs.Prelude.{if◌then◌else◌}
 use Rattle.standard.specs.Refusals.{Test, iv_test, key_test, spent, tested, width_test}
 use Rattle.keystream.specs.Starts.{StartOutcome, accepted_start, refused_start, start-EEA3, start_tag₂₅₆, start₁₂₈, start₂₅₆}
 use Rattle.mac.specs.Calls.{Outcome, begun_tag-128, begun_tag-256, refused_tag, start_outcome-128, start_outcome-256, start_outcome-EIA3}

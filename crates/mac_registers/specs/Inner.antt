@@ -1,6 +1,6 @@
 -- Inner functions only: what they ask of a tag in the making, and parts of the running rule that they promise.
-use Rattle.std.specs.Prelude.{List, ◌⊎◌, ◌≡◌, ℕ, ◌+◌, ◌-◌, ◌*◌, ◌/◌, ◌^◌, ◌<◌, eqb, get_or, length}
-use Rattle.standard.specs.Notation.{◌⟨◌⟩, if◌then◌else◌}
+use Rattle.std.specs.Prelude.{List, ◌⊎◌, ◌≡◌, ℕ, ◌+◌, ◌-◌, ◌*◌, ◌/◌, ◌^◌, ◌<◌, eqb, get_or, length, if◌then◌else◌}
+use Rattle.standard.specs.Notation.{◌⟨◌⟩}
 use Rattle.standard.specs.Bits.{z}
 use Rattle.standard.specs.States.{Held, Stored, moved}
 use Rattle.standard.proofs.Held.{Ready}

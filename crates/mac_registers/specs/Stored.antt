@@ -1,6 +1,6 @@
 -- How the struct of the code holds a tag in the making, at a width of 4, 8 or 16 bytes: the reading and the way back.
-use Rattle.std.specs.Prelude.{List, [], ◌∷◌, ◌++◌, ℕ, ◌+◌, ◌-◌, ◌*◌, ◌/◌, ◌%◌, ◌^◌, eqb, length, replicate, take}
-use Rattle.standard.specs.Notation.{◌⟨◌⟩, if◌then◌else◌}
+use Rattle.std.specs.Prelude.{List, [], ◌∷◌, ◌++◌, ℕ, ◌+◌, ◌-◌, ◌*◌, ◌/◌, ◌%◌, ◌^◌, eqb, length, replicate, take, if◌then◌else◌}
+use Rattle.standard.specs.Notation.{◌⟨◌⟩}
 use Rattle.standard.specs.States.{Stored}
 use Rattle.zuc.specs.Reading.{held_of}
 use Rattle.mac_registers.specs.Tagging.{Tagging}

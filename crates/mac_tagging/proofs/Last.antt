@@ -11,7 +11,8 @@ use lib.Bits.{bit_xor, xor_zero_r}
 use lib.Pow.{pow-add, shl_lt, shl-shr, shr_lt, shr-shr}
 use lib.Dec.{eqb}
 use borrow.Author.Tests.{eq-eqb, ne_eqb}
-use Rattle.standard.specs.Notation.{◌⊕◌, if◌then◌else◌}
+use Rattle.std.specs.Prelude.{if◌then◌else◌}
+use Rattle.standard.specs.Notation.{◌⊕◌}
 use Rattle.standard.specs.Bits.{M, bit_at, bit_of, window}
 use Rattle.standard.specs.Integrity.{T, where_set}
 use Rattle.standard.proofs.Sum.{sum-ext, sum-split}

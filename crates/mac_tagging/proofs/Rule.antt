@@ -14,7 +14,8 @@ use lib.Pow.{low}
 use borrow.Author.Tests.{eq-eqb, ne_eqb}
 use Rattle.standard.proofs.Held.{moved_more, word_moved}
 use Rattle.standard.specs.States.{Held, moved}
-use Rattle.standard.specs.Notation.{◌⊕◌, ceil, if◌then◌else◌}
+use Rattle.std.specs.Prelude.{if◌then◌else◌}
+use Rattle.standard.specs.Notation.{◌⊕◌, ceil}
 use Rattle.standard.specs.Bits.{M, window, z}
 use Rattle.standard.specs.Generator.{word, word_at}
 use Rattle.standard.specs.Integrity.{T, drawn_after-EIA3, drawn_after-ZUC256, drawn_by_tag-EIA3, drawn_by_tag-ZUC256, tag-EIA3, tag-ZUC256}

@@ -10,7 +10,8 @@ use lib.Bits.{bit_xor, xor_lt}
 use lib.Dec.{ltb}
 use lib.ListN.{take}
 use borrow.Author.Tests.{le-ltb, lt-ltb}
-use Rattle.standard.specs.Notation.{◌⊕◌, if◌then◌else◌}
+use Rattle.std.specs.Prelude.{if◌then◌else◌}
+use Rattle.standard.specs.Notation.{◌⊕◌}
 use Rattle.standard.specs.Bits.{window}
 use Rattle.standard.specs.Integrity.{T}
 use Rattle.standard.proofs.Register.{window-none, window-up, window-xor}

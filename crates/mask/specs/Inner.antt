@@ -1,7 +1,6 @@
 -- Inner functions only: what they clear, how far a mask reaches in either mode, and what it draws from.
-use Rattle.std.specs.Prelude.{Bool, ◌≡◌, ℕ, ◌+◌, ◌*◌, ◌/◌, ◌<◌, ◌≤◌, ltb}
+use Rattle.std.specs.Prelude.{Bool, ◌≡◌, ℕ, ◌+◌, ◌*◌, ◌/◌, ◌<◌, ◌≤◌, ltb, if◌then◌else◌}
 use Rattle.standard.specs.Confidentiality.{keep_high, kept_by_clean, words_to_mask_clean, words_to_mask_crate}
-use Rattle.standard.specs.Notation.{if◌then◌else◌}
 use Rattle.standard.specs.Generator.{State, started}
 use Rattle.standard.proofs.Cells.{Cells}
 use Rattle.standard.proofs.Kept.{crate_end}

@@ -1,9 +1,8 @@
 -- Both modes as one, by a test, for inner functions and theorems alone: at true each definition is clean mode's, at false crate mode's.
-use Rattle.std.specs.Prelude.{Bool, List, ℕ, length}
+use Rattle.std.specs.Prelude.{Bool, List, ℕ, length, if◌then◌else◌}
 use Rattle.standard.specs.Confidentiality.{IV-EEA3, bytes_iv-EEA3, mask_clean, mask_crate, words_to_mask_clean, words_to_mask_crate}
 use Rattle.standard.specs.Generator.{keystream, word_at}
 use Rattle.standard.specs.Loading.{load₁₂₈}
-use Rattle.standard.specs.Notation.{if◌then◌else◌}
 use Rattle.standard.specs.States.{Counted, Held}
 use Rattle.mask.specs.Outcome.{Outcome, mask_tested}
 use Rattle.mask.specs.Once.{Once, plain_tested, strict_tested}

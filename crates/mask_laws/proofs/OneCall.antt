@@ -14,7 +14,7 @@ use Rattle.standard.specs.Bits.{M, z}
 use Rattle.standard.specs.Confidentiality.{IV-EEA3, OBS, half_iv-EEA3}
 use Rattle.standard.specs.Generator.{keystream}
 use Rattle.standard.specs.Loading.{load₁₂₈}
-use Rattle.standard.specs.Notation.{if◌then◌else◌}
+use Rattle.std.specs.Prelude.{if◌then◌else◌}
 use Rattle.standard.specs.Refusals.{Test, accepted, bad_field, bad_key, bits_test, field_test, key_test, limit_test, tested}
 use Rattle.standard.specs.States.{limit}
 use Rattle.standard.proofs.Fields.{InField, OutOfField, bad-field, bad-key, field-passed, strict-accepted, strict-answer, strict-fits, strict-refused}

@@ -10,7 +10,7 @@ use lib.ListN.{length}
 use Rattle.standard.specs.Generator.{State, started}
 use Rattle.standard.specs.Integrity.{IV-EIA3}
 use Rattle.standard.specs.Loading.{d-keystream, d-tag₁₂₈, d-tag₃₂, d-tag₆₄, load₁₂₈, load₂₅₆, row_of}
-use Rattle.standard.specs.Notation.{if◌then◌else◌}
+use Rattle.std.specs.Prelude.{if◌then◌else◌}
 use Rattle.standard.specs.Refusals.{Test, accepted, bits_test, iv_test, key_test, limit_test, state_test, tested, width_test}
 use Rattle.standard.specs.States.{Counted, Held, drawn_on, from_start, from_zero, generator_formed, moved}
 use Rattle.standard.proofs.Held.{moved-moved, moved_none}

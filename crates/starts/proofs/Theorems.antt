@@ -9,7 +9,8 @@ use lib.Dec.{eqb, lit<}
 use lib.ListN.{length}
 use Rattle.standard.specs.Generator.{State, after, started}
 use Rattle.standard.specs.Loading.{d-keystream, d-tag₁₂₈, d-tag₃₂, d-tag₆₄, row_of}
-use Rattle.standard.specs.Notation.{◌⟨◌⟩, if◌then◌else◌}
+use Rattle.std.specs.Prelude.{if◌then◌else◌}
+use Rattle.standard.specs.Notation.{◌⟨◌⟩}
 use Rattle.standard.specs.States.{Counted, Held, from_zero, moved, zeros}
 use Rattle.standard.proofs.Held.{moved-meaning}
 use Rattle.zuc_apart.specs.Given.{Given, load_of, of_EEA3, of_EIA3, zuc128, zuc256}

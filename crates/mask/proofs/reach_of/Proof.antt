@@ -5,7 +5,7 @@ use native.Mathlib.Omega.{arith}
 use Prim.Native.Nat.{◌+◌, ◌*◌, ◌/◌, ◌%◌}
 use borrow.Author.Rules.{rules}
 use Rattle.standard.specs.Confidentiality.{words_to_mask_clean, words_to_mask_crate}
-use Rattle.standard.specs.Notation.{if◌then◌else◌}
+use Rattle.std.specs.Prelude.{if◌then◌else◌}
 use Rattle.mask.specs.Inner.{mode_end}
 use Rattle.mask.proofs.Outcomes.{crate-end}
 use Rattle.mask.proofs.reach_of.Statement.{statement}
