@@ -17,8 +17,8 @@ pub loop-i-preserved : goal.loop-i-preserved
 loop-i-preserved c =
     let l = c.loop-i in
     let a = c.args.a in
-    cut-filled 2 32 18 l.i c.half_of_lem.result (take 9 a) l.halves (omega arith) (search rules)
-    (c.half_of_lem.ensures ∙ ap (λ (x : ℕ). window (bit_of 64 x) (l.i % 2 * 32) 32) (sym (get_or-take 9 a (l.i / 2) 0 (omega arith))))
+    cut-filled 2 32 18 l.i c.half_of.result (take 9 a) l.halves (omega arith) (search rules)
+    (c.half_of.ensures ∙ ap (λ (x : ℕ). window (bit_of 64 x) (l.i % 2 * 32) 32) (sym (get_or-take 9 a (l.i / 2) 0 (omega arith))))
     l.invariant
 
 pub returns : goal.returns

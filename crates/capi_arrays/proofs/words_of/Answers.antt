@@ -24,37 +24,37 @@ two_at a i x y hx hy ex ey =
     ∙ two-joined 32 (omega arith) (λ k. a ⟨ k ⟩) (2 * i) (subst (λ (n : ℕ). n < 2 ^ 32) ex hx) (subst (λ (n : ℕ). n < 2 ^ 32) ey hy)
     ∙ ap (λ (n : ℕ). window (bit_at 32 (λ k. a ⟨ k ⟩)) n 64) place
 
-full : (s : goal.Start invariant-loop decreases-loop) → length s.args.z.s ≡ 16
-full s = search rules
-
-fits : (s : goal.Start invariant-loop decreases-loop) (i : ℕ) → Fits w32 (s.args.z.s ⟨ i ⟩)
-fits s i = search rules
-
 pub loop-i-init : goal.loop-i-init
 loop-i-init c = (omega arith, none_filled (entry (flat c.args.z)) 9 (replicate 9 0) refl)
 
 pub loop-i-preserved : goal.loop-i-preserved
 loop-i-preserved c =
+    let full : length c.args.z.s ≡ 16 =
+    search rules in
+    let fits : (i : ℕ) → Fits w32 (c.args.z.s ⟨ i ⟩) =
+    λ i. search rules in
     let l = c.loop-i in
     let z = c.args.z in
     let i : ℕ = l.i in
     let stands : (k : ℕ) → k < 16 → z.s ⟨ k ⟩ ≡ flat z ⟨ k ⟩ =
-    λ k h. sym (get_or-append z.s (z.r1 ∷ z.r2 ∷ []) 0 k (omega (arith, full c))) in (
+    λ k h. sym (get_or-append z.s (z.r1 ∷ z.r2 ∷ []) 0 k (omega (arith, full))) in (
       omega arith,
       one-filled (entry (flat z)) 9 i c.joined.result l.words (omega arith)
           (c.joined.ensures
-          ∙ two_at (flat z) i (z.s ⟨ 2 * i ⟩) (z.s ⟨ 2 * i + 1 ⟩) (fits c (2 * i)).fits (fits c (2 * i + 1)).fits (stands (2 * i) (omega arith)) (stands (2 * i + 1) (omega arith)))
+          ∙ two_at (flat z) i (z.s ⟨ 2 * i ⟩) (z.s ⟨ 2 * i + 1 ⟩) (fits (2 * i)).fits (fits (2 * i + 1)).fits (stands (2 * i) (omega arith)) (stands (2 * i + 1) (omega arith)))
           l.invariant.1,
     )
 
 pub returns : goal.returns
 unfolding regrouped placed
 returns c =
+    let full : length c.args.z.s ≡ 16 =
+    search rules in
     let l = c.loop-i in
     let z = c.args.z in
     let a : List ℕ = flat z in
     let last : (k : ℕ) → (z.r1 ∷ z.r2 ∷ []) ⟨ k ⟩ ≡ a ⟨ 16 + k ⟩ =
-    λ k. sym (ap (λ (n : ℕ). a ⟨ n + k ⟩) (sym (full c)) ∙ get_or-append-add z.s (z.r1 ∷ z.r2 ∷ []) k 0) in
+    λ k. sym (ap (λ (n : ℕ). a ⟨ n + k ⟩) (sym (full)) ∙ get_or-append-add z.s (z.r1 ∷ z.r2 ∷ []) k 0) in
     let at_8 : 8 ≡ l.i = omega arith in
     all-filled (entry a) 9 9 _ refl
     (subst (λ (n : ℕ). Filled (entry a) 9 (n + 1) (set l.words n c.joined-2.result)) (sym at_8)

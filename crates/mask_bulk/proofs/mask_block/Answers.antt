@@ -94,7 +94,5 @@ returns c =
     let l = c.loop-j in
     let σ : State = state_at c.args.run.now 0 c.args.start in
     let end : l.j ≡ length c.args.part.now / 4 = omega arith in
-    let whole = c.requires.part_fits.1 in (
-      c.rest.ensures _ _ (subst (λ (k : ℕ). Standing l.run l.pairs k l.h (after k σ)) end l.invariant.3),
-      sym (from_end (masked (word_at σ)) (4 * l.j) l.part (omega (arith, whole))) ∙ l.invariant.4 ∙ from-start _ _,
-    )
+    let whole = c.requires.part_fits.1 in
+    record { state = c.rest.ensures _ _ (subst (λ (k : ℕ). Standing l.run l.pairs k l.h (after k σ)) end l.invariant.3); bytes = sym (from_end (masked (word_at σ)) (4 * l.j) l.part (omega (arith, whole))) ∙ l.invariant.4 ∙ from-start _ _ }

@@ -11,10 +11,11 @@ use Rattle.zuc_bulk.proofs.Filling.{turn_on}
 use Rattle.zuc_turn.specs.InnerRun.{Standing, state_at}
 use Rattle.mask_bulk.proofs.Words.{alone, turn-masked}
 use Rattle.mask_bulk.proofs.mask_on.Goals as goal
+use Rattle.mask_bulk.proofs.mask_on.Goals.{After-rest, After-turn-last}
 
 -- past the last word: the state that the run began with, and the one that it stands for once it is rested
-module _ (w : goal.After-rest invariant-loop decreases-loop) where
-  abbrev at_turn : goal.After-turn-last invariant-loop decreases-loop
+module _ (w : After-rest invariant-loop decreases-loop) where
+  abbrev at_turn : After-turn-last invariant-loop decreases-loop
   at_turn = w
 
   abbrev begun : State
@@ -101,10 +102,8 @@ shape_of-buf-then-i-drawn c =
 pub returns-then-i-drawn : goal.returns-then-i-drawn
 returns-then-i-drawn c =
     let l = c.loop-buf in
-    let σ : State = state_at c.args.run.now 0 c.args.start in (
-      subst (λ (n : ℕ). Standing l.run l.pairs 0 l.h (after n σ)) c.if-i-drawn.true l.invariant.3,
-      sym (from_end _ l.i l.buf (omega (arith, c.requires.buf_fits.0))) ∙ l.invariant.4 ∙ from-start _ _,
-    )
+    let σ : State = state_at c.args.run.now 0 c.args.start in
+    record { state = subst (λ (n : ℕ). Standing l.run l.pairs 0 l.h (after n σ)) c.if-i-drawn.true l.invariant.3; bytes = sym (from_end _ l.i l.buf (omega (arith, c.requires.buf_fits.0))) ∙ l.invariant.4 ∙ from-start _ _ }
 
 pub turn-last-requires : goal.turn-last-requires
 turn-last-requires c =
@@ -146,10 +145,11 @@ returns c =
     let l = (at_turn c).loop in
     let i : ℕ = l.i in
     let n : ℕ = length l.buf in
-    let drawn = (at_turn c).turn.ensures.word ∙ ap word l.inv.3.state ∙ word_after (i / 4) (begun c) in (
-      rested c,
-      sym (from_end (masked (word_at (begun c))) n _ (omega (arith, same-length-6 c)))
+    let drawn = (at_turn c).turn.ensures.word ∙ ap word l.inv.3.state ∙ word_after (i / 4) (begun c) in
+    record {
+      state = rested c;
+      bytes = sym (from_end (masked (word_at (begun c))) n _ (omega (arith, same-length-6 c)))
           ∙ turn-masked (begun c) (i / 4) i n (omega arith) _ l.buf _ n (omega arith) (omega arith) (alone (begun c) (i / 4) i n (omega arith) drawn (omega arith)) c.xor_rest.ensures
           ∙ l.inv.4
-          ∙ from-start _ _,
-    )
+          ∙ from-start _ _;
+    }

@@ -10,20 +10,16 @@ use Rattle.standard.specs.Notation.{◌⟨◌⟩}
 use Rattle.standard.specs.States.{Counted, Held}
 use Rattle.zuc.specs.Reading.{cells_from}
 use borrow.Author.Rules.{rules}
-use Rattle.capi_arrays.proofs.state_in.Statement.{statement}
-use Rattle.capi_arrays.proofs.state_in.Tie as tie
+use Rattle.capi_arrays.proofs.state_in.Goals as goal
 
-full : (s : tie.Start) → length s.args.a ≡ 20
-full s = search rules
-
-fits : (s : tie.Start) (k : ℕ) → Fits w32 (s.args.a ⟨ k ⟩)
-fits s k = search rules
-
-returns : tie.Need-returns
+pub returns : goal.returns
 unfolding held_in held_from
 returns c =
-    let start = c.before.before in
-    let a = start.args.a in
+    let full : length c.args.a ≡ 20 =
+    search rules in
+    let fits : (k : ℕ) → Fits w32 (c.args.a ⟨ k ⟩) =
+    λ k. search rules in
+    let a = c.args.a in
     let is : ◌≡◌ {A = Counted Held} _ (held_in a) =
     λ i. record {
       held =
@@ -33,7 +29,4 @@ returns c =
           };
       count = a ⟨ 19 ⟩;
     } in
-    (is, (ap array_of is ∙ held-array a (full start), ((fits start 18).fits, (fits start 19).fits)))
-
-pub state_in_spec : {M : Type 1} → statement M
-state_in_spec = tie.close (tie.spec (λ c. search rules) (λ c. search rules) (λ c. search rules) (λ c. search rules) (λ c. search rules) (λ c. search rules) (λ c. search rules) (λ c. search rules) returns)
+    record { is = is; back = ap array_of is ∙ held-array a (full); small = ((fits 18).fits, (fits 19).fits) }
