@@ -24,7 +24,7 @@ unfolding fill_outcome tested
 returns-then-not-has_left c =
     rw (
       sym c.is_formed.ensures ∙ not-false c.is_formed.result c.if-not-is_formed.false-raw,
-      sym c.Has-left.ensures ∙ not-true c.Has-left.result c.if-not-has_left.true-raw,
+      sym c.has_left.ensures ∙ not-true c.has_left.result c.if-not-has_left.true-raw,
     )
     refl
 
@@ -35,7 +35,7 @@ words_into-z-requires c =
 pub overflow_add-result : goal.overflow_add-result
 overflow_add-result c =
     let a = c.args in
-    omega (arith, leb-true (a.state.count + length a.buffer.now) limit (sym c.Has-left.ensures ∙ not-false c.Has-left.result c.if-not-has_left.false-raw))
+    omega (arith, leb-true (a.state.count + length a.buffer.now) limit (sym c.has_left.ensures ∙ not-false c.has_left.result c.if-not-has_left.false-raw))
 
 pub returns : goal.returns
 unfolding fill_outcome tested
@@ -43,7 +43,7 @@ returns c =
     let a = c.args in
     rw (
       sym c.is_formed.ensures ∙ not-false c.is_formed.result c.if-not-is_formed.false-raw,
-      sym c.Has-left.ensures ∙ not-false c.Has-left.result c.if-not-has_left.false-raw,
+      sym c.has_left.ensures ∙ not-false c.has_left.result c.if-not-has_left.false-raw,
     )
     (λ i. record {
       number = 0;

@@ -23,7 +23,7 @@ unfolding draw_outcome tested
 returns-then-not-has_left c =
     rw (
       sym c.is_formed.ensures ∙ not-false c.is_formed.result c.if-not-is_formed.false-raw,
-      sym c.Has-left.ensures ∙ not-true c.Has-left.result c.if-not-has_left.true-raw,
+      sym c.has_left.ensures ∙ not-true c.has_left.result c.if-not-has_left.true-raw,
     )
     refl
 
@@ -33,14 +33,14 @@ draw-drawn-requires c =
 
 pub overflow_add-result : goal.overflow_add-result
 overflow_add-result c =
-    omega (arith, leb-true (c.args.state.count + 1) limit (sym c.Has-left.ensures ∙ not-false c.Has-left.result c.if-not-has_left.false-raw))
+    omega (arith, leb-true (c.args.state.count + 1) limit (sym c.has_left.ensures ∙ not-false c.has_left.result c.if-not-has_left.false-raw))
 
 pub returns : goal.returns
 unfolding draw_outcome tested
 returns c =
     rw (
       sym c.is_formed.ensures ∙ not-false c.is_formed.result c.if-not-is_formed.false-raw,
-      sym c.Has-left.ensures ∙ not-false c.Has-left.result c.if-not-has_left.false-raw,
+      sym c.has_left.ensures ∙ not-false c.has_left.result c.if-not-has_left.false-raw,
     )
     (λ i. record {
       number = 0;

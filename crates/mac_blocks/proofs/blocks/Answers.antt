@@ -15,34 +15,12 @@ use Rattle.mac_registers.proofs.OnRun.{opened-as}
 use Rattle.mac_blocks.proofs.Moves.{cnt-lt}
 use Rattle.mac_blocks.proofs.blocks.Goals as goal
 
--- the width stays
-same_width : (l : goal.At-loop-i invariant-loop decreases-loop) → l.loop-i.o.width ≡ l.args.start.width
-unfolding packed
-same_width l = ap (λ (x : Stored). x.width) l.loop-i.invariant.3.stored
-
--- the part is as long as it was asked to be
-part_length : (p : goal.After-portion invariant-loop decreases-loop)
-    → length (take (p.loop-i.i + p.portion.result - p.loop-i.i) (drop p.loop-i.i p.args.message.now)) ≡ p.portion.result
-part_length p =
-    let l = p in
-    let m = l.args.message.now in
-    let n : l.loop-i.i + p.portion.result - l.loop-i.i ≡ p.portion.result = omega arith in
-    length-take-le _ (drop l.loop-i.i m) (omega (arith, p.portion.ensures.within, length-drop l.loop-i.i m)) ∙ n
-
 pub loop-i-init : goal.loop-i-init
 unfolding updated
 loop-i-init c =
     let opened = c.requires.opened in
     let none : c.args.from - c.args.from ≡ 0 = omega arith in
     (c.requires.aligned.1, c.requires.aligned.0, (0, omega arith), record { rest = opened.rest; stored = rw none (sym opened.holds.packs) })
-
-pub overflow_sub-message : goal.overflow_sub-message
-overflow_sub-message c =
-    omega arith
-
-pub overflow_sub-message-in-loop-i : goal.overflow_sub-message-in-loop-i
-overflow_sub-message-in-loop-i c =
-    omega arith
 
 pub portion-requires : goal.portion-requires
 portion-requires c =
@@ -52,22 +30,21 @@ pub overflow_add-e : goal.overflow_add-e
 overflow_add-e c =
     omega (arith, c.portion.ensures.within)
 
-pub slice_bounds-feed-count : goal.slice_bounds-feed-count
-slice_bounds-feed-count c =
-    omega arith
-
-pub slice_bounds-feed-start : goal.slice_bounds-feed-start
-slice_bounds-feed-start c =
-    omega arith
-
 pub slice_bounds-feed-end : goal.slice_bounds-feed-end
 slice_bounds-feed-end c =
     omega (arith, c.portion.ensures.within)
 
 pub feed-o-requires : goal.feed-o-requires
+unfolding packed
 feed-o-requires c =
+    let same_width : c.loop-i.o.width ≡ c.args.start.width =
+    ap (λ (x : Stored). x.width) c.loop-i.invariant.3.stored in
+    let part_length : length (take (c.loop-i.i + c.portion.result - c.loop-i.i) (drop c.loop-i.i c.args.message.now)) ≡ c.portion.result =
+    let m = c.args.message.now in
+    let n : c.loop-i.i + c.portion.result - c.loop-i.i ≡ c.portion.result = omega arith in
+    length-take-le _ (drop c.loop-i.i m) (omega (arith, c.portion.ensures.within, length-drop c.loop-i.i m)) ∙ n in
     let f = c.portion.ensures in
-    record { high = c.requires.high; low = c.requires.low; opened = opened-as c.loop-i.invariant.3 (good-updated _ c.requires.opened.holds.good); blocks = (c.loop-i.invariant.1, omega (arith, f.most, part_length c), (f.count, part_length c ∙ f.whole ∙ ap (λ (w : ℕ). f.count * w) (sym (same_width c)))) }
+    record { high = c.requires.high; low = c.requires.low; opened = opened-as c.loop-i.invariant.3 (good-updated _ c.requires.opened.holds.good); blocks = (c.loop-i.invariant.1, omega (arith, f.most, part_length), (f.count, part_length ∙ f.whole ∙ ap (λ (w : ℕ). f.count * w) (sym (same_width)))) }
 
 pub loop-i-smaller : goal.loop-i-smaller
 loop-i-smaller c =

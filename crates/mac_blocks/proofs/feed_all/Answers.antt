@@ -11,65 +11,77 @@ use Rattle.mac_registers.proofs.Fresh.{fresh-lt}
 use Rattle.mac_blocks.proofs.Ahead.{fed-all, fed-none, fed-on, room}
 use Rattle.mac_blocks.proofs.feed_all.Goals as goal
 
--- there is room for a block
-fits : (t : goal.In-loop-i invariant-loop decreases-loop)
-    → (t.loop-i.i + t.args.width ≤ length t.args.part.now)
-    × (t.loop-i.i % 4 ≡ 0)
-    × (0 < t.args.width)
-fits t =
-    let l = t in
-    let s = l in
-    room s.requires.width_fits l.loop-i.i (length s.args.part.now) l.loop-i.invariant.1.0 s.requires.part_fits.1.0 l.loop-i.invariant.1.1 s.requires.part_fits.1.1 t.loop-i-test.true
-
-block-length : (t : goal.In-loop-i invariant-loop decreases-loop)
-    → length (take (t.loop-i.i + t.args.width - t.loop-i.i) (drop t.loop-i.i t.args.part.now))
-    ≡ t.args.width
-block-length t =
-    let l = t in
-    let a = l.args in
-    let n : l.loop-i.i + a.width - l.loop-i.i ≡ a.width = omega arith in
-    length-take-le _ (drop l.loop-i.i a.part.now) (omega (arith, (fits t).0, length-drop l.loop-i.i a.part.now)) ∙ n
-
 pub loop-i-init : goal.loop-i-init
 loop-i-init c =
     let a = c.args in
     (omega arith, (0, omega arith), λ σ h e. fed-none a.width a.key a.tag a.words.now a.part.now σ h e)
 
 pub overflow_add-e : goal.overflow_add-e
-overflow_add-e c = let known = (fits c).0 in search rules
-
-pub slice_bounds-tag_with-count : goal.slice_bounds-tag_with-count
-slice_bounds-tag_with-count c = omega arith
-
-pub slice_bounds-tag_with-start : goal.slice_bounds-tag_with-start
-slice_bounds-tag_with-start c = omega arith
+overflow_add-e c =
+    let fits : (c.loop-i.i + c.args.width ≤ length c.args.part.now)
+    × (c.loop-i.i % 4 ≡ 0)
+    × (0 < c.args.width) =
+    room c.requires.width_fits c.loop-i.i (length c.args.part.now) c.loop-i.invariant.1.0 c.requires.part_fits.1.0 c.loop-i.invariant.1.1 c.requires.part_fits.1.1 c.loop-i-test.true in
+    let known = (fits).0 in search rules
 
 pub slice_bounds-tag_with-end : goal.slice_bounds-tag_with-end
-slice_bounds-tag_with-end c = let known = (fits c).0 in omega arith
+slice_bounds-tag_with-end c =
+    let fits : (c.loop-i.i + c.args.width ≤ length c.args.part.now)
+    × (c.loop-i.i % 4 ≡ 0)
+    × (0 < c.args.width) =
+    room c.requires.width_fits c.loop-i.i (length c.args.part.now) c.loop-i.invariant.1.0 c.requires.part_fits.1.0 c.loop-i.invariant.1.1 c.requires.part_fits.1.1 c.loop-i-test.true in
+    let known = (fits).0 in omega arith
 
 pub tag_with-sum-requires : goal.tag_with-sum-requires
 tag_with-sum-requires c =
-    record { width_fits = c.requires.width_fits; block_fits = omega (arith, block-length c) }
+    let fits : (c.loop-i.i + c.args.width ≤ length c.args.part.now)
+    × (c.loop-i.i % 4 ≡ 0)
+    × (0 < c.args.width) =
+    room c.requires.width_fits c.loop-i.i (length c.args.part.now) c.loop-i.invariant.1.0 c.requires.part_fits.1.0 c.loop-i.invariant.1.1 c.requires.part_fits.1.1 c.loop-i-test.true in
+    let block-length : length (take (c.loop-i.i + c.args.width - c.loop-i.i) (drop c.loop-i.i c.args.part.now))
+    ≡ c.args.width =
+    let a = c.args in
+    let n : c.loop-i.i + a.width - c.loop-i.i ≡ a.width = omega arith in
+    length-take-le _ (drop c.loop-i.i a.part.now) (omega (arith, (fits).0, length-drop c.loop-i.i a.part.now)) ∙ n in
+    record { width_fits = c.requires.width_fits; block_fits = omega (arith, block-length) }
 
 pub fresh_at-fresh-requires : goal.fresh_at-fresh-requires
 fresh_at-fresh-requires c =
-    record { width_fits = c.requires.width_fits; words_fit = omega (arith, (fits c).0, (fits c).1, c.requires.part_fits.0) }
+    let fits : (c.loop-i.i + c.args.width ≤ length c.args.part.now)
+    × (c.loop-i.i % 4 ≡ 0)
+    × (0 < c.args.width) =
+    room c.requires.width_fits c.loop-i.i (length c.args.part.now) c.loop-i.invariant.1.0 c.requires.part_fits.1.0 c.loop-i.invariant.1.1 c.requires.part_fits.1.1 c.loop-i-test.true in
+    record { width_fits = c.requires.width_fits; words_fit = omega (arith, (fits).0, (fits).1, c.requires.part_fits.0) }
 
 pub key_on-moved-requires : goal.key_on-moved-requires
 key_on-moved-requires c =
     record { width_fits = c.requires.width_fits; tag_fits = fresh-lt c.args.words.now c.requires.width_fits (c.loop-i.i / 4) _ c.fresh_at-fresh.ensures }
 
 pub loop-i-smaller : goal.loop-i-smaller
-loop-i-smaller c = let known = fits c in omega (arith, known.0, known.2)
+loop-i-smaller c =
+    let fits : (c.loop-i.i + c.args.width ≤ length c.args.part.now)
+    × (c.loop-i.i % 4 ≡ 0)
+    × (0 < c.args.width) =
+    room c.requires.width_fits c.loop-i.i (length c.args.part.now) c.loop-i.invariant.1.0 c.requires.part_fits.1.0 c.loop-i.invariant.1.1 c.requires.part_fits.1.1 c.loop-i-test.true in
+    let known = fits in omega (arith, known.0, known.2)
 
 pub loop-i-preserved : goal.loop-i-preserved
 loop-i-preserved c =
+    let fits : (c.loop-i.i + c.args.width ≤ length c.args.part.now)
+    × (c.loop-i.i % 4 ≡ 0)
+    × (0 < c.args.width) =
+    room c.requires.width_fits c.loop-i.i (length c.args.part.now) c.loop-i.invariant.1.0 c.requires.part_fits.1.0 c.loop-i.invariant.1.1 c.requires.part_fits.1.1 c.loop-i-test.true in
+    let block-length : length (take (c.loop-i.i + c.args.width - c.loop-i.i) (drop c.loop-i.i c.args.part.now))
+    ≡ c.args.width =
+    let a = c.args in
+    let n : c.loop-i.i + a.width - c.loop-i.i ≡ a.width = omega arith in
+    length-take-le _ (drop c.loop-i.i a.part.now) (omega (arith, (fits).0, length-drop c.loop-i.i a.part.now)) ∙ n in
     let a = c.args in
     let n = c.loop-i.invariant.1.0 in (
-      (fits c).0,
+      (fits).0,
       (suc n, omega (arith, c.loop-i.invariant.1.1, suc-mul n a.width)),
       λ σ h e. fed-on a.width a.key a.tag a.words.now a.part.now σ h e c.loop-i.i c.loop-i.fed.key c.loop-i.fed.tag _ _ _
-          (c.loop-i.invariant.2 σ h e) (fits c).1 (fits c).0 (block-length c) c.tag_with-sum.ensures c.fresh_at-fresh.ensures c.key_on-moved.ensures,
+          (c.loop-i.invariant.2 σ h e) (fits).1 (fits).0 (block-length) c.tag_with-sum.ensures c.fresh_at-fresh.ensures c.key_on-moved.ensures,
     )
 
 pub returns : goal.returns

@@ -1,4 +1,5 @@
 -- `mask_on`: at place i, a multiple of 4, the run stands for the state after i/4 words and the mask is left to do from i on; a lent part does its places.
+use borrow.Author.Rules.{rules}
 use lib.ListN.{drop, length, length-drop, length-take, take}
 use mathlib.Core.Path.{◌≡◌, refl, sym, ap, ◌∙◌, subst}
 use native.Mathlib.Omega.{arith}
@@ -11,67 +12,17 @@ use Rattle.zuc_bulk.proofs.Filling.{turn_on}
 use Rattle.zuc_turn.specs.InnerRun.{Standing, state_at}
 use Rattle.mask_bulk.proofs.Words.{alone, turn-masked}
 use Rattle.mask_bulk.proofs.mask_on.Goals as goal
-use Rattle.mask_bulk.proofs.mask_on.Goals.{After-rest, After-turn-last}
-
--- past the last word: the state that the run began with, and the one that it stands for once it is rested
-module _ (w : After-rest invariant-loop decreases-loop) where
-  abbrev at_turn : After-turn-last invariant-loop decreases-loop
-  at_turn = w
-
-  abbrev begun : State
-  begun = state_at at_turn.args.run.now 0 at_turn.args.start
-
-  abbrev place : ℕ
-  place = at_turn.loop.i
-
-  rested : Standing w.rest.last.0 w.rest.last.1.0 0 at_turn.turn.result.h (after at_turn.args.drawn begun)
-  unfolding after
-  rested =
-      let words = at_turn.pre.1.1.1.1 in
-      turn_on begun (place / 4) 1 at_turn.args.drawn at_turn.loop.inv.3 (w.rest.ensures _ _ at_turn.turn.ensures.standing) (omega (arith, words.0, words.1))
 
 pub loop-buf-init : goal.loop-buf-init
 loop-buf-init c =
     let pre = c.requires in
     (omega arith, refl, refl, record { laid = pre.laid; low = pre.halves; state = sym (after_none _) }, refl)
 
-pub overflow_sub-buf : goal.overflow_sub-buf
-overflow_sub-buf c =
-    omega arith
-
-pub overflow_sub-buf-in-loop-buf : goal.overflow_sub-buf-in-loop-buf
-overflow_sub-buf-in-loop-buf c =
-    omega arith
-
-pub overflow_mul-e : goal.overflow_mul-e
-overflow_mul-e c =
-    omega arith
-
-pub overflow_add-e : goal.overflow_add-e
-overflow_add-e c =
-    omega arith
-
-pub slice_bounds-mask_block-count : goal.slice_bounds-mask_block-count
-slice_bounds-mask_block-count c =
-    omega arith
-
-pub slice_bounds-mask_block-start : goal.slice_bounds-mask_block-start
-slice_bounds-mask_block-start c =
-    omega arith
-
-pub slice_bounds-mask_block-end : goal.slice_bounds-mask_block-end
-slice_bounds-mask_block-end c =
-    omega arith
-
 pub mask_block-h-requires : goal.mask_block-h-requires
 mask_block-h-requires c =
     let pre = c.requires in
     let standing = c.loop-buf.invariant.3 in
     record { high = pre.high; low = pre.low; laid = standing.laid; halves = standing.low; part_fits = (simp (length-take, length-drop) (omega arith), simp (length-take, length-drop) (omega arith)) }
-
-pub loop-buf-smaller : goal.loop-buf-smaller
-loop-buf-smaller c =
-    omega arith
 
 pub loop-buf-preserved : goal.loop-buf-preserved
 loop-buf-preserved c =
@@ -83,9 +34,9 @@ loop-buf-preserved c =
       omega arith,
       omega arith,
       omega arith,
-      turn_on _ (i / 4) _ (e / 4) l.invariant.3 f.0 far,
+      turn_on _ (i / 4) _ (e / 4) l.invariant.3 f.state far,
       turn-masked _ (i / 4) i e (omega arith) _ l.buf _ e (omega arith) (omega arith)
-          (λ n h. ap (λ (τ : State). word_at τ n) l.invariant.3.state ∙ word_at-after (i / 4) n _) f.1
+          (λ n h. ap (λ (τ : State). word_at τ n) l.invariant.3.state ∙ word_at-after (i / 4) n _) f.bytes
           ∙ l.invariant.4,
     )
 
@@ -94,10 +45,6 @@ shape_of-run-then-i-drawn c = c.loop-buf.invariant.3.laid.long ∙ sym c.require
 
 pub shape_of-pairs-then-i-drawn : goal.shape_of-pairs-then-i-drawn
 shape_of-pairs-then-i-drawn c = c.loop-buf.invariant.3.laid.wide ∙ sym c.requires.laid.wide
-
-pub shape_of-buf-then-i-drawn : goal.shape_of-buf-then-i-drawn
-shape_of-buf-then-i-drawn c =
-    omega arith
 
 pub returns-then-i-drawn : goal.returns-then-i-drawn
 returns-then-i-drawn c =
@@ -111,18 +58,6 @@ turn-last-requires c =
     let standing = c.loop-buf.invariant.3 in
     record { high = pre.high; low = pre.low; laid = standing.laid; halves = standing.low; place_fits = omega arith }
 
-pub slice_bounds-xor_rest-count : goal.slice_bounds-xor_rest-count
-slice_bounds-xor_rest-count c =
-    omega arith
-
-pub slice_bounds-xor_rest-start : goal.slice_bounds-xor_rest-start
-slice_bounds-xor_rest-start c =
-    omega arith
-
-pub slice_bounds-xor_rest-end : goal.slice_bounds-xor_rest-end
-slice_bounds-xor_rest-end c =
-    omega arith
-
 pub xor_rest-requires : goal.xor_rest-requires
 xor_rest-requires c = simp (length-take, length-drop) (omega arith)
 
@@ -132,24 +67,26 @@ rest-requires c =
     record { room = (laid.long, laid.wide); place_fits = omega arith }
 
 pub shape_of-run : goal.shape_of-run
-shape_of-run c = (rested c).laid.long ∙ sym c.requires.laid.long
+shape_of-run c = (c.rest.ensures _ _ c.turn-last.ensures.standing).laid.long ∙ sym c.requires.laid.long
 
 pub shape_of-pairs : goal.shape_of-pairs
-shape_of-pairs c = (rested c).laid.wide ∙ sym c.requires.laid.wide
+shape_of-pairs c = (c.rest.ensures _ _ c.turn-last.ensures.standing).laid.wide ∙ sym c.requires.laid.wide
 
-pub shape_of-buf : goal.shape_of-buf
-shape_of-buf c = omega arith
-
+-- past the last word: the state that the run began with, and the one that it stands for once it is rested
 pub returns : goal.returns
+unfolding after
 returns c =
-    let l = (at_turn c).loop in
+    let l = c.loop-buf in
     let i : ℕ = l.i in
     let n : ℕ = length l.buf in
-    let drawn = (at_turn c).turn.ensures.word ∙ ap word l.inv.3.state ∙ word_after (i / 4) (begun c) in
+    let begun : State = state_at c.args.run.now 0 c.args.start in
+    let words = c.requires.buf_fits in
+    let full : length c.xor_rest.new.part ≡ n - i = search rules in
+    let drawn = c.turn-last.ensures.word ∙ ap word l.invariant.3.state ∙ word_after (i / 4) begun in
     record {
-      state = rested c;
-      bytes = sym (from_end (masked (word_at (begun c))) n _ (omega (arith, same-length-6 c)))
-          ∙ turn-masked (begun c) (i / 4) i n (omega arith) _ l.buf _ n (omega arith) (omega arith) (alone (begun c) (i / 4) i n (omega arith) drawn (omega arith)) c.xor_rest.ensures
-          ∙ l.inv.4
+      state = turn_on begun (i / 4) 1 c.args.drawn l.invariant.3 (c.rest.ensures _ _ c.turn-last.ensures.standing) (omega (arith, words.0, words.1));
+      bytes = sym (from_end (masked (word_at begun)) n _ (omega (arith, full)))
+          ∙ turn-masked begun (i / 4) i n (omega arith) _ l.buf _ n (omega arith) (omega arith) (alone begun (i / 4) i n (omega arith) drawn (omega arith)) c.xor_rest.ensures
+          ∙ l.invariant.4
           ∙ from-start _ _;
     }

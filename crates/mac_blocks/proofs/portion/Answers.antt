@@ -4,8 +4,7 @@ use Prim.Native.Nat.{ℕ, ◌-◌, ◌/◌, ◌%◌, ◌<◌, ◌≤◌}
 use native.Mathlib.Omega.{arith}
 use Rattle.mac_registers.specs.Inner.{Width}
 use Rattle.mac_blocks.specs.InnerWhole.{Portion}
-use Rattle.mac_blocks.proofs.portion.Statement.{statement}
-use Rattle.mac_blocks.proofs.portion.Tie as tie
+use Rattle.mac_blocks.proofs.portion.Goals as goal
 
 full : (w left : ℕ) → Width w → 256 ≤ left → Portion w left 256
 full w left v h =
@@ -24,12 +23,26 @@ cut w left v h =
     (λ e. rw e (omega arith, omega arith, record { most = omega arith; within = omega arith; some = λ l. omega arith; count = left / 16; whole = omega arith }))
     o) v
 
-returns : tie.Need-returns-then-left-ge256
-returns c = full _ _ c.before.requires c.if-left-ge256.true
+pub returns-then-left-ge256 : goal.returns-then-left-ge256
+returns-then-left-ge256 c = full _ _ c.requires c.if-left-ge256.true
 
-short : (c : tie.Else-left-ge256) → (0 < c.before.args.width) × (c.before.args.left % c.before.args.width ≤ c.before.args.left)
-    × Portion c.before.args.width c.before.args.left (c.before.args.left - c.before.args.left % c.before.args.width)
-short c = cut c.before.args.width c.before.args.left c.before.requires (omega (arith, c.if-left-ge256.false))
+pub nonzero_rem-result : goal.nonzero_rem-result
+nonzero_rem-result c =
+    let short : (0 < c.args.width) × (c.args.left % c.args.width ≤ c.args.left)
+    × Portion c.args.width c.args.left (c.args.left - c.args.left % c.args.width) =
+    cut c.args.width c.args.left c.requires (omega (arith, c.if-left-ge256.false)) in
+    (short).0
 
-pub portion_spec : {M : Type 1} → statement M
-portion_spec = tie.close (tie.spec returns (λ c. (short c).0) (λ c. (short c).1) (λ c. (short c).2))
+pub overflow_sub-result : goal.overflow_sub-result
+overflow_sub-result c =
+    let short : (0 < c.args.width) × (c.args.left % c.args.width ≤ c.args.left)
+    × Portion c.args.width c.args.left (c.args.left - c.args.left % c.args.width) =
+    cut c.args.width c.args.left c.requires (omega (arith, c.if-left-ge256.false)) in
+    (short).1
+
+pub returns : goal.returns
+returns c =
+    let short : (0 < c.args.width) × (c.args.left % c.args.width ≤ c.args.left)
+    × Portion c.args.width c.args.left (c.args.left - c.args.left % c.args.width) =
+    cut c.args.width c.args.left c.requires (omega (arith, c.if-left-ge256.false)) in
+    (short).2
