@@ -1,0 +1,24 @@
+-- `start_256` meets its contract: the cells are laid, the first words drawn, and the cells taken back.
+use mathlib.Core.Path.{ap, ◌∙◌}
+use Prim.Native.Nat.{ℕ, ◌*◌}
+use Rattle.standard.specs.States.{Held}
+use Rattle.zuc.specs.Reading.{held_of}
+use Rattle.mac_registers.specs.Stored.{packed}
+use Rattle.mac_registers.specs.Tagging.{begun-ZUC256}
+use Rattle.mac_registers.proofs.OnRun.{opened-as}
+use Rattle.mac_registers.proofs.Packed.{good-ZUC256}
+use Rattle.mac_tagging.proofs.Laid.{goes_back, laid-held, laid-ready}
+use Rattle.mac_tagging.proofs.calls.start_256.Goals as goal
+
+pub taken-requires : goal.taken-requires
+taken-requires c =
+    let begun = c.begin_256-o.ensures in
+    let k : Held = held_of c.args.g in
+    let laid = c.lay_state-h.ensures in
+    goes_back (opened-as begun (good-ZUC256 c.requires.width_fits _ (laid-ready k laid c.requires.ready)))
+
+pub returns : goal.returns
+returns c =
+    let w : ℕ = c.args.width in
+    let k : Held = held_of c.args.g in
+    c.taken.ensures ∙ c.begin_256-o.ensures.stored ∙ ap (λ (x : Held). packed w (begun-ZUC256 (w * 8) x)) (laid-held k c.lay_state-h.ensures)

@@ -1,0 +1,110 @@
+-- `begin_256` meets its contract: of the first words a third is the tag, and the others are the key pair.
+-- the array before the words
+use mathlib.Core.List.{List, ◌++◌}
+use mathlib.Core.Path.{◌≡◌, sym, ap, ◌∙◌}
+use Prim.Native.Nat.{ℕ, ◌*◌, ◌/◌, ◌≤◌}
+use native.Mathlib.Omega.{arith}
+use lib.ListN.{drop, length, length-append, length-drop, replicate, take}
+use lib.Seq.{length-take-le}
+use Rattle.standard.specs.Generator.{after, word_at}
+use Rattle.standard.specs.States.{Held}
+use Rattle.standard.proofs.Held.{moved-is}
+use Rattle.standard.proofs.Listed.{length-listed}
+use Rattle.mac_registers.specs.InnerOpen.{held_on}
+use Rattle.mac_registers.proofs.Fresh.{filled}
+use Rattle.mac_registers.proofs.OnRun.{at_rest}
+use Rattle.mac_registers.proofs.Packed.{width-most}
+use Rattle.mac_tagging.proofs.Starts.{begun-256}
+use Rattle.mac_tagging.proofs.updates.begin_256.Goals as goal
+
+abbrev zeros : List ℕ
+zeros = replicate 12 0
+
+pub slice_bounds-words-end : goal.slice_bounds-words-end
+slice_bounds-words-end c =
+    let most : c.args.width / 4 * 3 ≤ 12 =
+    omega (arith, width-most c.requires.width_fits) in
+    most
+
+pub slice_bounds-words_on-end : goal.slice_bounds-words_on-end
+slice_bounds-words_on-end c =
+    let most : c.args.width / 4 * 3 ≤ 12 =
+    omega (arith, width-most c.requires.width_fits) in
+    let room : length (take (c.args.width / 4 * 3) zeros) ≡ c.args.width / 4 * 3 =
+    length-take-le _ zeros (most) in
+    sym (room)
+
+pub words_on-next-requires : goal.words_on-next-requires
+words_on-next-requires c =
+    let rest = c.requires.at_rest in
+    record { high = c.requires.high; low = c.requires.low; laid = rest.laid; halves = rest.low }
+
+pub slice_bounds-fresh_at-end : goal.slice_bounds-fresh_at-end
+slice_bounds-fresh_at-end c =
+    let most : c.args.width / 4 * 3 ≤ 12 =
+    omega (arith, width-most c.requires.width_fits) in
+    let room : length (take (c.args.width / 4 * 3) zeros) ≡ c.args.width / 4 * 3 =
+    length-take-le _ zeros (most) in
+    let long : length (c.words_on-next.new.out ++ drop (c.args.width / 4 * 3) zeros) ≡ 12 =
+    let n : ℕ = c.args.width / 4 * 3 in
+    let ys = c.words_on-next.new.out in
+    let drawn : length ys ≡ n = ap length c.words_on-next.ensures.words ∙ length-listed _ 0 _ ∙ room in
+    omega (arith, length-append ys (drop n zeros), drawn, length-drop n zeros, most) in
+    sym (long)
+
+pub fresh_at-tag-requires : goal.fresh_at-tag-requires
+fresh_at-tag-requires c =
+    let most : c.args.width / 4 * 3 ≤ 12 =
+    omega (arith, width-most c.requires.width_fits) in
+    let room : length (take (c.args.width / 4 * 3) zeros) ≡ c.args.width / 4 * 3 =
+    length-take-le _ zeros (most) in
+    let long : length (c.words_on-next.new.out ++ drop (c.args.width / 4 * 3) zeros) ≡ 12 =
+    let n : ℕ = c.args.width / 4 * 3 in
+    let ys = c.words_on-next.new.out in
+    let drawn : length ys ≡ n = ap length c.words_on-next.ensures.words ∙ length-listed _ 0 _ ∙ room in
+    omega (arith, length-append ys (drop n zeros), drawn, length-drop n zeros, most) in
+    record { width_fits = c.requires.width_fits; words_fit = omega (arith, long, most) }
+
+pub slice_bounds-key_at-end : goal.slice_bounds-key_at-end
+slice_bounds-key_at-end c =
+    let most : c.args.width / 4 * 3 ≤ 12 =
+    omega (arith, width-most c.requires.width_fits) in
+    let room : length (take (c.args.width / 4 * 3) zeros) ≡ c.args.width / 4 * 3 =
+    length-take-le _ zeros (most) in
+    let long : length (c.words_on-next.new.out ++ drop (c.args.width / 4 * 3) zeros) ≡ 12 =
+    let n : ℕ = c.args.width / 4 * 3 in
+    let ys = c.words_on-next.new.out in
+    let drawn : length ys ≡ n = ap length c.words_on-next.ensures.words ∙ length-listed _ 0 _ ∙ room in
+    omega (arith, length-append ys (drop n zeros), drawn, length-drop n zeros, most) in
+    sym (long)
+
+pub key_at-key-requires : goal.key_at-key-requires
+key_at-key-requires c =
+    let most : c.args.width / 4 * 3 ≤ 12 =
+    omega (arith, width-most c.requires.width_fits) in
+    let room : length (take (c.args.width / 4 * 3) zeros) ≡ c.args.width / 4 * 3 =
+    length-take-le _ zeros (most) in
+    let long : length (c.words_on-next.new.out ++ drop (c.args.width / 4 * 3) zeros) ≡ 12 =
+    let n : ℕ = c.args.width / 4 * 3 in
+    let ys = c.words_on-next.new.out in
+    let drawn : length ys ≡ n = ap length c.words_on-next.ensures.words ∙ length-listed _ 0 _ ∙ room in
+    omega (arith, length-append ys (drop n zeros), drawn, length-drop n zeros, most) in
+    record { width_fits = c.requires.width_fits; words_fit = omega (arith, long, most) }
+
+pub returns : goal.returns
+returns c =
+    let most : c.args.width / 4 * 3 ≤ 12 =
+    omega (arith, width-most c.requires.width_fits) in
+    let room : length (take (c.args.width / 4 * 3) zeros) ≡ c.args.width / 4 * 3 =
+    length-take-le _ zeros (most) in
+    let drew = c.words_on-next.ensures in
+    let n : ℕ = c.args.width / 4 * 3 in
+    let σ : Held = held_on c.args.run.now c.args.h c.args.start in
+    record {
+      rest = at_rest drew.standing;
+      stored =
+          begun-256 σ _ _ _ c.requires.width_fits _ (moved-is n σ c.requires.start_fits (drew.standing.state ∙ ap (λ (k : ℕ). after k σ.meaning) (room)) c.index_after.ensures)
+          (filled (word_at σ.meaning) n c.words_on-next.new.out zeros (drop n zeros) drew.words (most))
+          c.fresh_at-tag.ensures
+          c.key_at-key.ensures;
+    }

@@ -1,0 +1,129 @@
+-- `mask`: the tests decide the outcome; past them the mask is the mode's.
+use mathlib.Core.Bool.{true}
+use mathlib.Core.Path.{◌≡◌, ◌∙◌, ap, refl, sym}
+use native.Mathlib.Omega.{arith}
+use Prim.Native.Nat.{ℕ, ◌+◌, ◌*◌, ◌≤◌}
+use lib.Dec.{leb}
+use lib.ListN.{length}
+use borrow.Author.Tests.{leb-true, not-false, not-true}
+use Rattle.standard.proofs.Held.{Ready}
+use Rattle.standard.specs.Generator.{word_at}
+use Rattle.standard.specs.Refusals.{accepted, state_test}
+use Rattle.standard.specs.States.{generator_formed, limit, moved}
+use Rattle.zuc.proofs.Turning.{formed-ready}
+use Rattle.zuc.specs.Reading.{counted_of, held_of}
+use Rattle.mask.specs.Modes.{mode_mask, mode_words}
+use Rattle.mask.specs.Outcome.{Outcome, drawn, mask_tested, refused}
+use Rattle.mask.proofs.Outcomes.{Call, bad-bits, bad-first, done, mode-mask, too_many}
+use borrow.Author.Rules.{rules}
+use Rattle.mask.proofs.mask.Goals as goal
+use Rattle.mask.proofs.mask.Goals.{Else-not-is_formed}
+
+-- what is known past each test
+module _ (i : Else-not-is_formed) where
+  formed : generator_formed (counted_of i.args.state) ≡ true
+  formed = sym i.is_formed.ensures ∙ not-false _ i.if-not-is_formed.false-raw
+
+  ready : Ready (held_of i.args.state.z) × (i.args.state.count ≤ limit)
+  ready = formed-ready _ (search rules) formed
+
+pub returns-then-not-is_formed : goal.returns-then-not-is_formed
+unfolding mask_tested
+returns-then-not-is_formed c =
+    let call : Call Outcome =
+    let a = c.args in
+    let g = counted_of a.state in
+    let n = mode_words a.clean a.bits a.buf.now in
+    record {
+      first = state_test (generator_formed g);
+      L = a.bits;
+      buffer = a.buf.now;
+      count = g.count;
+      words = n;
+      refused = refused g a.buf.now;
+      answer = drawn n g (mode_mask a.clean (word_at g.held.meaning) a.bits a.buf.now);
+    } in
+    bad-first (call) (sym c.is_formed.ensures ∙ not-true _ c.if-not-is_formed.true-raw)
+
+pub returns-then-not-bits_fit : goal.returns-then-not-bits_fit
+unfolding mask_tested
+returns-then-not-bits_fit c =
+    let call : Call Outcome =
+    let a = c.args in
+    let g = counted_of a.state in
+    let n = mode_words a.clean a.bits a.buf.now in
+    record {
+      first = state_test (generator_formed g);
+      L = a.bits;
+      buffer = a.buf.now;
+      count = g.count;
+      words = n;
+      refused = refused g a.buf.now;
+      answer = drawn n g (mode_mask a.clean (word_at g.held.meaning) a.bits a.buf.now);
+    } in
+    bad-bits (call) (formed c) (sym c.bits_fit.ensures ∙ not-true _ c.if-not-bits_fit.true-raw)
+
+pub has_left-requires : goal.has_left-requires
+has_left-requires c = (ready c).1
+
+pub returns-then-not-has_left : goal.returns-then-not-has_left
+unfolding mask_tested
+returns-then-not-has_left c =
+    let call : Call Outcome =
+    let a = c.args in
+    let g = counted_of a.state in
+    let n = mode_words a.clean a.bits a.buf.now in
+    record {
+      first = state_test (generator_formed g);
+      L = a.bits;
+      buffer = a.buf.now;
+      count = g.count;
+      words = n;
+      refused = refused g a.buf.now;
+      answer = drawn n g (mode_mask a.clean (word_at g.held.meaning) a.bits a.buf.now);
+    } in
+    let fits : leb c.args.bits (length c.args.buf.now * 8) ≡ true =
+    sym c.bits_fit.ensures ∙ not-false _ c.if-not-bits_fit.false-raw in
+    too_many (call) (formed c) (fits) c.reach_of-reach.ensures.words (sym c.has_left.ensures ∙ not-true _ c.if-not-has_left.true-raw)
+
+pub mask_from-z-requires : goal.mask_from-z-requires
+mask_from-z-requires c =
+    let fits : leb c.args.bits (length c.args.buf.now * 8) ≡ true =
+    sym c.bits_fit.ensures ∙ not-false _ c.if-not-bits_fit.false-raw in
+    let held = (ready c).0 in
+    record { in_place = (held.cells, held.start); enough = c.reach_of-reach.ensures.enough (leb-true _ _ (fits)) }
+
+pub overflow_add-result : goal.overflow_add-result
+overflow_add-result c =
+    let left : leb (c.args.state.count + c.reach_of-reach.result.drawn) limit ≡ true =
+    sym c.has_left.ensures ∙ not-false _ c.if-not-has_left.false-raw in
+    let a = c.args in
+    omega (arith, leb-true (a.state.count + c.reach_of-reach.result.drawn) limit (left))
+
+pub returns : goal.returns
+unfolding mask_tested
+returns c =
+    let call : Call Outcome =
+    let a = c.args in
+    let g = counted_of a.state in
+    let n = mode_words a.clean a.bits a.buf.now in
+    record {
+      first = state_test (generator_formed g);
+      L = a.bits;
+      buffer = a.buf.now;
+      count = g.count;
+      words = n;
+      refused = refused g a.buf.now;
+      answer = drawn n g (mode_mask a.clean (word_at g.held.meaning) a.bits a.buf.now);
+    } in
+    let fits : leb c.args.bits (length c.args.buf.now * 8) ≡ true =
+    sym c.bits_fit.ensures ∙ not-false _ c.if-not-bits_fit.false-raw in
+    let left : leb (c.args.state.count + c.reach_of-reach.result.drawn) limit ≡ true =
+    sym c.has_left.ensures ∙ not-false _ c.if-not-has_left.false-raw in
+    let a = c.args in
+    let reaches = c.reach_of-reach.ensures in
+    let m = c.mask_from-z.ensures in
+    let state = m.0 refl ∙ ap (λ (n : ℕ). moved n (held_of a.state.z)) reaches.words in
+    let masked = m.1 ∙ mode-mask a.clean _ a.bits a.buf.now reaches.end in
+    done (call) (formed c) (fits) reaches.words (left)
+    (λ i. record { number = accepted; count = reaches.words i; state = record { held = state i; count = a.state.count + reaches.words i }; buffer = masked i })
