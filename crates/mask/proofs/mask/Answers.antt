@@ -17,15 +17,6 @@ use Rattle.mask.specs.Outcome.{Outcome, drawn, mask_tested, refused}
 use Rattle.mask.proofs.Outcomes.{Call, bad-bits, bad-first, done, mode-mask, too_many}
 use borrow.Author.Rules.{rules}
 use Rattle.mask.proofs.mask.Goals as goal
-use Rattle.mask.proofs.mask.Goals.{Else-not-is_formed}
-
--- what is known past each test
-module _ (i : Else-not-is_formed) where
-  formed : generator_formed (counted_of i.args.state) ≡ true
-  formed = sym i.is_formed.ensures ∙ not-false _ i.if-not-is_formed.false-raw
-
-  ready : Ready (held_of i.args.state.z) × (i.args.state.count ≤ limit)
-  ready = formed-ready _ (search rules) formed
 
 pub returns-then-not-is_formed : goal.returns-then-not-is_formed
 unfolding mask_tested
@@ -43,7 +34,7 @@ returns-then-not-is_formed c =
       refused = refused g a.buf.now;
       answer = drawn n g (mode_mask a.clean (word_at g.held.meaning) a.bits a.buf.now);
     } in
-    bad-first (call) (sym c.is_formed.ensures ∙ not-true _ c.if-not-is_formed.true-raw)
+    bad-first call (sym c.is_formed.ensures ∙ not-true _ c.if-not-is_formed.true-raw)
 
 pub returns-then-not-bits_fit : goal.returns-then-not-bits_fit
 unfolding mask_tested
@@ -61,10 +52,17 @@ returns-then-not-bits_fit c =
       refused = refused g a.buf.now;
       answer = drawn n g (mode_mask a.clean (word_at g.held.meaning) a.bits a.buf.now);
     } in
-    bad-bits (call) (formed c) (sym c.bits_fit.ensures ∙ not-true _ c.if-not-bits_fit.true-raw)
+    let formed : generator_formed (counted_of c.args.state) ≡ true =
+    sym c.is_formed.ensures ∙ not-false _ c.if-not-is_formed.false-raw in
+    bad-bits call formed (sym c.bits_fit.ensures ∙ not-true _ c.if-not-bits_fit.true-raw)
 
 pub has_left-requires : goal.has_left-requires
-has_left-requires c = (ready c).1
+has_left-requires c =
+    let formed : generator_formed (counted_of c.args.state) ≡ true =
+    sym c.is_formed.ensures ∙ not-false _ c.if-not-is_formed.false-raw in
+    let ready : Ready (held_of c.args.state.z) × (c.args.state.count ≤ limit) =
+    formed-ready _ (search rules) formed in
+    ready.1
 
 pub returns-then-not-has_left : goal.returns-then-not-has_left
 unfolding mask_tested
@@ -84,21 +82,27 @@ returns-then-not-has_left c =
     } in
     let fits : leb c.args.bits (length c.args.buf.now * 8) ≡ true =
     sym c.bits_fit.ensures ∙ not-false _ c.if-not-bits_fit.false-raw in
-    too_many (call) (formed c) (fits) c.reach_of-reach.ensures.words (sym c.has_left.ensures ∙ not-true _ c.if-not-has_left.true-raw)
+    let formed : generator_formed (counted_of c.args.state) ≡ true =
+    sym c.is_formed.ensures ∙ not-false _ c.if-not-is_formed.false-raw in
+    too_many call formed fits c.reach_of-reach.ensures.words (sym c.has_left.ensures ∙ not-true _ c.if-not-has_left.true-raw)
 
 pub mask_from-z-requires : goal.mask_from-z-requires
 mask_from-z-requires c =
     let fits : leb c.args.bits (length c.args.buf.now * 8) ≡ true =
     sym c.bits_fit.ensures ∙ not-false _ c.if-not-bits_fit.false-raw in
-    let held = (ready c).0 in
-    record { in_place = (held.cells, held.start); enough = c.reach_of-reach.ensures.enough (leb-true _ _ (fits)) }
+    let formed : generator_formed (counted_of c.args.state) ≡ true =
+    sym c.is_formed.ensures ∙ not-false _ c.if-not-is_formed.false-raw in
+    let ready : Ready (held_of c.args.state.z) × (c.args.state.count ≤ limit) =
+    formed-ready _ (search rules) formed in
+    let held = ready.0 in
+    record { in_place = (held.cells, held.start); enough = c.reach_of-reach.ensures.enough (leb-true _ _ fits) }
 
 pub overflow_add-result : goal.overflow_add-result
 overflow_add-result c =
     let left : leb (c.args.state.count + c.reach_of-reach.result.drawn) limit ≡ true =
     sym c.has_left.ensures ∙ not-false _ c.if-not-has_left.false-raw in
     let a = c.args in
-    omega (arith, leb-true (a.state.count + c.reach_of-reach.result.drawn) limit (left))
+    omega (arith, leb-true (a.state.count + c.reach_of-reach.result.drawn) limit left)
 
 pub returns : goal.returns
 unfolding mask_tested
@@ -120,10 +124,12 @@ returns c =
     sym c.bits_fit.ensures ∙ not-false _ c.if-not-bits_fit.false-raw in
     let left : leb (c.args.state.count + c.reach_of-reach.result.drawn) limit ≡ true =
     sym c.has_left.ensures ∙ not-false _ c.if-not-has_left.false-raw in
+    let formed : generator_formed (counted_of c.args.state) ≡ true =
+    sym c.is_formed.ensures ∙ not-false _ c.if-not-is_formed.false-raw in
     let a = c.args in
     let reaches = c.reach_of-reach.ensures in
     let m = c.mask_from-z.ensures in
-    let state = m.0 refl ∙ ap (λ (n : ℕ). moved n (held_of a.state.z)) reaches.words in
-    let masked = m.1 ∙ mode-mask a.clean _ a.bits a.buf.now reaches.end in
-    done (call) (formed c) (fits) reaches.words (left)
+    let state = m.state refl ∙ ap (λ (n : ℕ). moved n (held_of a.state.z)) reaches.words in
+    let masked = m.bytes ∙ mode-mask a.clean _ a.bits a.buf.now reaches.end in
+    done call formed fits reaches.words left
     (λ i. record { number = accepted; count = reaches.words i; state = record { held = state i; count = a.state.count + reaches.words i }; buffer = masked i })

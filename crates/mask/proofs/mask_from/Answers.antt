@@ -34,6 +34,6 @@ returns c =
     let same = c.lay_on-laid.ensures.state in
     record {
       state = λ e. c.state_of.ensures
-          ∙ moved-is a.reach.drawn (held_of a.z) c.requires.in_place.1 (c.mask_standing-h.ensures.0.state ∙ ap (after a.reach.drawn) (same ∙ ap (λ (b : Bool). drawn_from b a.z) e)) c.index_after.ensures;
+          ∙ moved-is a.reach.drawn (held_of a.z) c.requires.in_place.1 (c.mask_standing-h.ensures.state.state ∙ ap (after a.reach.drawn) (same ∙ ap (λ (b : Bool). drawn_from b a.z) e)) c.index_after.ensures;
       bytes = masked-by;
     }

@@ -1,10 +1,9 @@
 -- `copy` copies: after i turns the first i entries are those of `from`.
 use borrow.Author.Count.{below_none}
-use lib.ListN.{get_or, length, length-set}
+use lib.ListN.{get_or, length-set}
 use lib.Seq.{ext_get_or}
 use mathlib.Core.Path.{◌≡◌, ◌∙◌, refl}
 use native.Mathlib.Omega.{arith}
-use Prim.Native.Nat.{◌-◌}
 use Rattle.standard.proofs.Listed.{stored}
 use Rattle.words.proofs.copy.Goals as goal
 

@@ -1,10 +1,10 @@
 -- `entries` looks up each place: after i turns the first i are.
 use borrow.Author.Count.{below_none}
-use lib.ListN.{length, length-set}
+use lib.ListN.{length-set}
 use mathlib.Core.List.{List, ◌++◌}
 use mathlib.Core.Path.{◌≡◌}
 use native.Mathlib.Omega.{arith}
-use Prim.Native.Nat.{ℕ, ◌-◌}
+use Prim.Native.Nat.{ℕ}
 use Rattle.standard.proofs.Listed.{is-listed, stored}
 use Rattle.standard.specs.Boxes.{S₀-table, S₁-table}
 use Rattle.standard.specs.Notation.{◌⟨◌⟩}

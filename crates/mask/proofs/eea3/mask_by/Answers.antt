@@ -14,24 +14,20 @@ use Rattle.zuc_loading.proofs.Loaded.{IV-EEA3-bytes, cells-128}
 use Rattle.mask.specs.Inner.{end_of}
 use Rattle.mask.proofs.Once.{loaded}
 use Rattle.mask.proofs.eea3.mask_by.Goals as goal
-use Rattle.mask.proofs.eea3.mask_by.Goals.{After-load-loaded, Start}
-
-module _ (l : After-load-loaded) where
-  abbrev start : Start
-  start = l
-
-  loaded-is : loaded_of l.load.result ≡ loaded start.args.count start.args.bearer start.args.direction start.args.key.now
-  loaded-is = l.load.ensures ∙ ap (load₁₂₈ start.args.key.now) l.iv.ensures
 
 pub mask_from-requires : goal.mask_from-requires
 mask_from-requires c =
-    let a = (start c).args in
+    let loaded-is : loaded_of c.load-loaded.result ≡ loaded c.args.count c.args.bearer c.args.direction c.args.key.now =
+    c.load-loaded.ensures ∙ ap (load₁₂₈ c.args.key.now) c.iv-v.ensures in
+    let a = c.args in
     let cells = cells-128 a.key.now _ (λ i. (c.shared_slice_known-1.given i).fits) (IV-EEA3-bytes a.count a.bearer a.direction) in
-    let e = (start c).requires.enough in
-    record { in_place = (subst (λ (σ : State). Cells σ.cells) (sym (loaded-is c)) cells, lit< tt); enough = record { kept = e.kept; inside = e.inside; reached = e.reached; masking = omega arith; drawn = omega arith } }
+    let e = c.requires.enough in
+    record { in_place = (subst (λ (σ : State). Cells σ.cells) (sym loaded-is) cells, lit< tt); enough = record { kept = e.kept; inside = e.inside; reached = e.reached; masking = omega arith; drawn = omega arith } }
 
 pub returns : goal.returns
 returns c =
-    let a = (start c).args in
-    let words = ap (λ (σ : State). word_at (started σ)) (loaded-is c) ∙ sym (stream-is (loaded a.count a.bearer a.direction a.key.now)) in
+    let loaded-is : loaded_of c.load-loaded.result ≡ loaded c.args.count c.args.bearer c.args.direction c.args.key.now =
+    c.load-loaded.ensures ∙ ap (load₁₂₈ c.args.key.now) c.iv-v.ensures in
+    let a = c.args in
+    let words = ap (λ (σ : State). word_at (started σ)) loaded-is ∙ sym (stream-is (loaded a.count a.bearer a.direction a.key.now)) in
     c.mask_from.ensures.bytes ∙ ap (λ (ws : ℕ → ℕ). mask_clean ws (end_of a.bits a.reach) a.buf.now) words

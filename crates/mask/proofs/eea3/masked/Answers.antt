@@ -12,15 +12,6 @@ use Rattle.mask.specs.Once.{Once, drawn_once, plain_tested, refused_once}
 use Rattle.mask.proofs.Once.{loaded}
 use Rattle.mask.proofs.Outcomes.{Call, bad-bits, bad-first, done, mode-mask, too_many}
 use Rattle.mask.proofs.eea3.masked.Goals as goal
-use Rattle.mask.proofs.eea3.masked.Goals.{After-reach_of-reach}
-
--- what is known past the tests of key and bits
-module _ (r : After-reach_of-reach) where
-  keyed : eqb (length r.args.key.now) 16 ≡ true
-  keyed = eq-eqb _ 16 r.if-key-ne16.false
-
-  fits : leb r.args.bits (length r.args.buf.now * 8) ≡ true
-  fits = sym r.bits_fit.ensures ∙ not-false _ r.if2.left
 
 pub returns-then-key-ne16 : goal.returns-then-key-ne16
 unfolding plain_tested
@@ -37,7 +28,7 @@ returns-then-key-ne16 c =
       refused = refused_once a.buf.now;
       answer = drawn_once n (mode_mask a.clean (keystream (loaded a.count a.bearer a.direction a.key.now)) a.bits a.buf.now);
     } in
-    bad-first (call) (ne_eqb _ 16 c.if-key-ne16.true)
+    bad-first call (ne_eqb _ 16 c.if-key-ne16.true)
 
 pub returns-then-not-bits_fit : goal.returns-then-not-bits_fit
 unfolding plain_tested
@@ -54,7 +45,7 @@ returns-then-not-bits_fit c =
       refused = refused_once a.buf.now;
       answer = drawn_once n (mode_mask a.clean (keystream (loaded a.count a.bearer a.direction a.key.now)) a.bits a.buf.now);
     } in
-    bad-bits (call) (eq-eqb _ 16 c.if-key-ne16.false) (sym c.bits_fit.ensures ∙ not-true _ c.if-not-bits_fit.true-raw)
+    bad-bits call (eq-eqb _ 16 c.if-key-ne16.false) (sym c.bits_fit.ensures ∙ not-true _ c.if-not-bits_fit.true-raw)
 
 pub returns-then-not-has_left : goal.returns-then-not-has_left
 unfolding plain_tested
@@ -71,11 +62,17 @@ returns-then-not-has_left c =
       refused = refused_once a.buf.now;
       answer = drawn_once n (mode_mask a.clean (keystream (loaded a.count a.bearer a.direction a.key.now)) a.bits a.buf.now);
     } in
-    too_many (call) (keyed c) (fits c) c.reach_of-reach.ensures.words (sym c.has_left.ensures ∙ not-true _ c.if-not-has_left.true-raw)
+    let keyed : eqb (length c.args.key.now) 16 ≡ true =
+    eq-eqb _ 16 c.if-key-ne16.false in
+    let fits : leb c.args.bits (length c.args.buf.now * 8) ≡ true =
+    sym c.bits_fit.ensures ∙ not-false _ c.if-not-bits_fit.false-raw in
+    too_many call keyed fits c.reach_of-reach.ensures.words (sym c.has_left.ensures ∙ not-true _ c.if-not-has_left.true-raw)
 
 pub mask_by-requires : goal.mask_by-requires
 mask_by-requires c =
-    record { key_fits = c.if-key-ne16.false; enough = c.reach_of-reach.ensures.enough (leb-true _ _ (fits c)) }
+    let fits : leb c.args.bits (length c.args.buf.now * 8) ≡ true =
+    sym c.bits_fit.ensures ∙ not-false _ c.if-not-bits_fit.false-raw in
+    record { key_fits = c.if-key-ne16.false; enough = c.reach_of-reach.ensures.enough (leb-true _ _ fits) }
 
 pub returns : goal.returns
 unfolding plain_tested
@@ -92,8 +89,12 @@ returns c =
       refused = refused_once a.buf.now;
       answer = drawn_once n (mode_mask a.clean (keystream (loaded a.count a.bearer a.direction a.key.now)) a.bits a.buf.now);
     } in
+    let keyed : eqb (length c.args.key.now) 16 ≡ true =
+    eq-eqb _ 16 c.if-key-ne16.false in
+    let fits : leb c.args.bits (length c.args.buf.now * 8) ≡ true =
+    sym c.bits_fit.ensures ∙ not-false _ c.if-not-bits_fit.false-raw in
     let a = c.args in
     let reaches = c.reach_of-reach.ensures in
     let masked = c.mask_by.ensures ∙ mode-mask a.clean _ a.bits a.buf.now reaches.end in
-    done (call) (keyed c) (fits c) reaches.words (sym c.has_left.ensures ∙ not-false _ c.if-not-has_left.false-raw)
+    done call keyed fits reaches.words (sym c.has_left.ensures ∙ not-false _ c.if-not-has_left.false-raw)
     (λ i. record { number = accepted; count = reaches.words i; buffer = masked i })
