@@ -2,8 +2,9 @@
 // the programs.
 #![tactic(auto)]
 
-ghost use Rattle.std.specs.Prelude.{◌≤◌, length};
+ghost use Rattle.std.specs.Prelude.{◌≡◌, ◌≤◌, ◌↔◌, IsTrue, length};
 
+pub mod input;
 pub mod table;
 pub mod text;
 pub mod told;
@@ -24,6 +25,13 @@ pub fn least(a: usize, b: usize) -> usize
     ensures { (result ≤ a) × (result ≤ b) }
 {
     if a < b { a } else { b }
+}
+
+// Whether two slices are of the same bytes.
+pub fn same(a: &[u8], b: &[u8]) -> bool
+    ensures { IsTrue result ↔ (a.now ≡ b.now) }
+{
+    a == b
 }
 
 // The first n bytes, or all where there are fewer.

@@ -1,7 +1,7 @@
 // Words of a line, which single spaces cut, and patterns that a line must fit.
 ghost use Rattle.std.specs.Prelude.{◌≤◌, length};
 
-use super::{digit, front, least, part, put};
+use super::{digit, front, least, part, put, same};
 use std::num::{wrapping_add_u64, wrapping_add_usize};
 
 // A pattern of a table: its number, from 0, and its place.
@@ -58,16 +58,16 @@ fn digits(word: &[u8], base: u8, most: usize) -> bool {
 // Whether a word is what a pattern's word asks for: N a decimal number, W a word in hexadecimal, B bytes in hexadecimal (- is none of
 // them), and any other word itself.
 fn fits_word(word: &[u8], pattern: &[u8]) -> bool {
-    if check::same(pattern, b"N") {
+    if same(pattern, b"N") {
         return digits(word, 10, 20);
     }
-    if check::same(pattern, b"W") {
+    if same(pattern, b"W") {
         return digits(word, 16, 16);
     }
-    if !check::same(pattern, b"B") {
-        return check::same(word, pattern);
+    if !same(pattern, b"B") {
+        return same(word, pattern);
     }
-    if check::same(word, b"-") {
+    if same(word, b"-") {
         return true;
     }
     if word.len() % 2 == 1 {
@@ -116,8 +116,8 @@ pub fn numbers_in(line: &[u8], pattern: &[u8]) -> [u64; 4] {
     let mut n: usize = 0;
     for i in 0..pattern.len() {
         let asked = word(pattern, i);
-        let wide = check::same(asked, b"W");
-        if wide || check::same(asked, b"N") {
+        let wide = same(asked, b"W");
+        if wide || same(asked, b"N") {
             if n < 4 {
                 numbers[n] = number(word(line, i), wide);
                 n += 1;
@@ -131,7 +131,7 @@ pub fn numbers_in(line: &[u8], pattern: &[u8]) -> [u64; 4] {
 fn operand<'a>(line: &'a [u8], pattern: &[u8], n: usize) -> &'a [u8] {
     let mut left = n;
     for i in 0..pattern.len() {
-        if check::same(word(pattern, i), b"B") {
+        if same(word(pattern, i), b"B") {
             if left == 0 {
                 return word(line, i);
             }

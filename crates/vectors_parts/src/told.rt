@@ -1,19 +1,26 @@
 // What a call told, as text: numbers in decimal, words and bytes in hexadecimal, a space behind each.
-use super::{bytes_of, front, put};
+use super::{bytes_of, front, least, put};
+
+// A number's digits in base 10 or 16 behind a place: zeros in front, where it has fewer than so many.
+fn put_digits(n: u64, hexadecimal: bool, width: usize, out: &mut [u8], at: usize) -> usize {
+    let base: u64 = if hexadecimal { 16 } else { 10 };
+    let mut text = [b'0'; 20];
+    let mut first = 20 - least(width, 20);
+    let mut left = n;
+    for i in 0usize..20 {
+        if left != 0 {
+            first = least(first, 19 - i);
+        }
+        text[19 - i] = b"0123456789abcdef"[(left % base) as usize];
+        left /= base;
+    }
+    put(&text[first..], out, at)
+}
 
 // A number behind a place.
 pub fn number(n: u64, out: &mut [u8], at: usize) -> usize {
-    let mut text = [0u8; 20];
-    let k = io::decimal(n, &mut text);
-    let end = put(&text[..k], out, at);
+    let end = put_digits(n, false, 1, out, at);
     put(b" ", out, end)
-}
-
-// A number of so many hexadecimal digits.
-fn put_digits(n: u64, width: usize, out: &mut [u8], at: usize) -> usize {
-    let mut text = [0u8; 16];
-    let k = io::hex(n, width, &mut text);
-    put(&text[..k], out, at)
 }
 
 // Bytes behind a place: - where there are none.
@@ -23,7 +30,7 @@ pub fn bytes(bytes: &[u8], out: &mut [u8], at: usize) -> usize {
     }
     let mut end = at;
     for i in 0..bytes.len() {
-        end = put_digits(bytes[i] as u64, 2, out, end);
+        end = put_digits(bytes[i] as u64, true, 2, out, end);
     }
     put(b" ", out, end)
 }
@@ -32,7 +39,7 @@ pub fn bytes(bytes: &[u8], out: &mut [u8], at: usize) -> usize {
 pub fn longs(words: &[u64], out: &mut [u8], at: usize) -> usize {
     let mut end = at;
     for i in 0..words.len() {
-        end = put_digits(words[i], 16, out, end);
+        end = put_digits(words[i], true, 16, out, end);
     }
     put(b" ", out, end)
 }
