@@ -5,7 +5,7 @@ use capi_answers::{
 };
 use mac::{Mac128, Mac256};
 use mask::{MaskAnswer, Masked};
-use vectors_parts::{bytes_of, front, least, part, put};
+use vectors_parts::{bytes_of, front, least, part, put, same};
 use zuc::Generator;
 
 fn bytes_at(r: &[u8], f: Field) -> &[u8] {
@@ -57,7 +57,7 @@ fn words_agree(r: &[u8], c: Call, a: Answer) -> bool {
     if a.drawn != a.bits {
         return false;
     }
-    check::same(front(&bytes, n * 4), bytes_at(r, a.bytes))
+    same(front(&bytes, n * 4), bytes_at(r, a.bytes))
 }
 
 fn mask_front(state: Generator, buffer: &mut [u8], n: usize, bits: usize) -> Masked {
@@ -86,7 +86,7 @@ fn mask_agrees(r: &[u8], c: Call, a: Answer) -> bool {
     if next_word(state) != a.next {
         return false;
     }
-    check::same(front(&buffer, n), bytes_at(r, a.bytes))
+    same(front(&buffer, n), bytes_at(r, a.bytes))
 }
 
 // A tag as the record has it: 16 bytes, and the refusal number.
@@ -102,7 +102,7 @@ fn tag_told(r: &[u8], a: Answer, refusal: u32, x: u64, y: u64) -> bool {
     if refusal != a.refusal as u32 {
         return false;
     }
-    check::same(&bytes, bytes_at(r, a.bytes))
+    same(&bytes, bytes_at(r, a.bytes))
 }
 
 fn updated128(mac: Mac128, r: &[u8], first: usize, n: u8) -> Mac128 {

@@ -7,7 +7,8 @@ mod record;
 
 ghost use Rattle.std.specs.Prelude.{◌≤◌};
 
-use libc::{STDIN_FILENO, STDOUT_FILENO};
+use std::io;
+use vectors_parts::input::read_full;
 use vectors_parts::{digit, least, part};
 
 // A digit read: a first one waits (16 stands for none), a second one makes a byte whole.
@@ -106,19 +107,21 @@ fn replay(bytes: &[u8]) -> Tally {
     }
 }
 
-fn tell(t: Tally, what: &[u8]) {
-    io::print_decimal(STDOUT_FILENO, t.records);
-    io::write_all(STDOUT_FILENO, what);
-    io::print_decimal(STDOUT_FILENO, t.differ);
-    io::write_all(STDOUT_FILENO, b" different\n");
+fn tell(rt: &impl Print, t: Tally, what: &str) -> io::Result<()> {
+    let Tally {
+        records,
+        differ,
+        ..
+    } = t;
+    println!(rt; "{records} {what}, {differ} different")
 }
 
-fn main() {
+fn main(rt: HostRuntime) -> io::Result<()> {
     let mut text = [0u8; 262144];
-    let got = io::read_full(STDIN_FILENO, &mut text);
+    let got = read_full(&rt, &mut text)?;
     let n = pack(&mut text, got);
     let recorded = replay(part(&text, 0, n));
-    tell(recorded, b" recorded answers, ");
+    tell(&rt, recorded, "recorded answers")?;
     let altered = replay(part(part(&text, 0, n), recorded.end, n));
-    tell(altered, b" altered answers, ");
+    tell(&rt, altered, "altered answers")
 }
