@@ -1,0 +1,12 @@
+-- `pack` stays inside the text: no more bytes are made than characters were read.
+use lib.ListN.{length}
+use mathlib.Core.Path.{◌≡◌}
+use Prim.Native.Nat.{◌-◌, ◌≤◌}
+use Rattle.replay.proofs.pack.Given as goal
+
+abbrev pub invariant-loop-i : goal.invariant-loop-i
+invariant-loop-i l =
+    (l.end ≤ length l.initial.text) × (length l.text ≡ length l.initial.text) × (l.out ≤ l.i) × (l.high ≤ 16)
+
+abbrev pub decreases-loop-i : goal.decreases-loop-i
+decreases-loop-i l = l.end - l.i
