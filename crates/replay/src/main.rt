@@ -5,7 +5,7 @@
 mod calls;
 mod record;
 
-ghost use Rattle.std.specs.Prelude.{◌≤◌};
+ghost use Rattle.std.specs.Prelude.{◌^◌, ◌<◌, ◌≤◌};
 
 use std::io;
 use vectors_parts::input::read_full;
@@ -116,12 +116,19 @@ fn tell(rt: &impl Print, t: Tally, what: &str) -> io::Result<()> {
     println!(rt; "{records} {what}, {differ} different")
 }
 
-fn main(rt: HostRuntime) -> io::Result<()> {
-    let mut text = [0u8; 262144];
-    let got = read_full(&rt, &mut text)?;
+// Text of at most N bytes, read and replayed.
+fn shown<const N: usize>(rt: &(impl Input + Print)) -> io::Result<()>
+    requires { N < 2 ^ 63 }
+{
+    let mut text = [0u8; N];
+    let got = read_full(rt, &mut text)?;
     let n = pack(&mut text, got);
     let recorded = replay(part(&text, 0, n));
-    tell(&rt, recorded, "recorded answers")?;
+    tell(rt, recorded, "recorded answers")?;
     let altered = replay(part(part(&text, 0, n), recorded.end, n));
-    tell(&rt, altered, "altered answers")
+    tell(rt, altered, "altered answers")
+}
+
+fn main(rt: HostRuntime) -> io::Result<()> {
+    shown::<262144>(&rt)
 }

@@ -5,6 +5,8 @@
 mod calls;
 mod in_place;
 
+ghost use Rattle.std.specs.Prelude.{◌^◌, ◌<◌};
+
 use calls::{Generator, TagArray};
 use std::io;
 use std::num::wrapping_add_usize;
@@ -220,9 +222,16 @@ fn run(rt: &impl Print, script: &[u8]) -> io::Result<Tally> {
     Ok(p.tally)
 }
 
+// A script of at most N bytes, read and run.
+fn shown<const N: usize>(rt: &(impl Input + Print)) -> io::Result<()>
+    requires { N < 2 ^ 63 }
+{
+    let mut script = [0u8; N];
+    let n = read_full(rt, &mut script)?;
+    let tally = run(rt, front(&script, n))?;
+    foot(rt, tally)
+}
+
 fn main(rt: HostRuntime) -> io::Result<()> {
-    let mut script = [0u8; 524288];
-    let n = read_full(&rt, &mut script)?;
-    let tally = run(&rt, front(&script, n))?;
-    foot(&rt, tally)
+    shown::<524288>(&rt)
 }

@@ -1,7 +1,5 @@
 -- `pack` stays inside the text: no more bytes are made than characters were read.
-use lib.ListN.{length}
-use mathlib.Core.Path.{◌≡◌}
-use Prim.Native.Nat.{◌-◌, ◌≤◌}
+use Rattle.std.proofs.Common.{◌≡◌, ◌-◌, ◌≤◌, length}
 use Rattle.replay.proofs.pack.Given as goal
 
 abbrev pub invariant-loop-i : goal.invariant-loop-i

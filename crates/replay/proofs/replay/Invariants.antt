@@ -1,6 +1,5 @@
 -- `replay` stays inside the bytes: each record that is run leaves fewer, and there are no more records than bytes.
-use lib.ListN.{length}
-use Prim.Native.Nat.{◌+◌, ◌≤◌}
+use Rattle.std.proofs.Common.{◌+◌, ◌≤◌, length}
 use Rattle.replay.proofs.replay.Given as goal
 
 abbrev pub invariant-loop-left : goal.invariant-loop-left

@@ -1,5 +1,5 @@
 -- `after_updates` ends: one update a turn.
-use Prim.Native.Nat.{◌-◌}
+use Rattle.std.proofs.Common.{◌-◌}
 use Rattle.replay.proofs.calls.after_updates.Given as goal
 
 abbrev pub invariant-loop-i : goal.invariant-loop-i

@@ -1,5 +1,5 @@
 -- `updated128` ends: one update a turn.
-use Prim.Native.Nat.{◌-◌}
+use Rattle.std.proofs.Common.{◌-◌}
 use Rattle.replay.proofs.calls.updated128.Given as goal
 
 abbrev pub invariant-loop-i : goal.invariant-loop-i

@@ -1,5 +1,5 @@
 -- `updated256` ends: one update a turn.
-use Prim.Native.Nat.{◌-◌}
+use Rattle.std.proofs.Common.{◌-◌}
 use Rattle.replay.proofs.calls.updated256.Given as goal
 
 abbrev pub invariant-loop-i : goal.invariant-loop-i
