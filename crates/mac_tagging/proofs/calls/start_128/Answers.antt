@@ -14,7 +14,8 @@ taken-requires c =
     let begun = c.begin_128-o.ensures in
     let k : Held = held_of c.args.g in
     let laid = c.lay_state-h.ensures in
-    goes_back (opened-as begun (good-EIA3 _ (laid-ready k laid c.requires)))
+    let back = goes_back (opened-as begun (good-EIA3 _ (laid-ready k laid c.requires))) in
+    record { room = back.0; halves = back.1.0; start_fits = back.1.1 }
 
 pub returns : goal.returns
 returns c =

@@ -15,7 +15,8 @@ taken-requires c =
     let begun = c.begin_256-o.ensures in
     let k : Held = held_of c.args.g in
     let laid = c.lay_state-h.ensures in
-    goes_back (opened-as begun (good-ZUC256 c.requires.width_fits _ (laid-ready k laid c.requires.ready)))
+    let back = goes_back (opened-as begun (good-ZUC256 c.requires.width_fits _ (laid-ready k laid c.requires.ready))) in
+    record { room = back.0; halves = back.1.0; start_fits = back.1.1 }
 
 pub returns : goal.returns
 returns c =

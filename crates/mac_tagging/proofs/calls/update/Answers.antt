@@ -22,7 +22,8 @@ update-e-requires c =
 pub taken-requires : goal.taken-requires
 taken-requires c =
     let laid = c.lay-o.ensures in
-    goes_back (opened-as c.update-e.ensures (good-updated _ (opened laid c.requires).holds.good))
+    let back = goes_back (opened-as c.update-e.ensures (good-updated _ (opened laid c.requires).holds.good)) in
+    record { room = back.0; halves = back.1.0; start_fits = back.1.1 }
 
 pub returns : goal.returns
 returns c =

@@ -1,9 +1,8 @@
 -- `load` fills the cells: after i turns the first i are loaded.
 use borrow.Author.Count.{below_none}
-use lib.ListN.{length, length-set}
+use lib.ListN.{length-set}
 use mathlib.Core.Path.{◌≡◌, ◌∙◌, refl}
 use native.Mathlib.Omega.{arith}
-use Prim.Native.Nat.{◌-◌}
 use Rattle.zuc_loading.proofs.Rows.{D-row}
 use Rattle.standard.proofs.Listed.{is-listed, stored}
 use Rattle.standard.specs.Loading.{D, load₁₂₈}

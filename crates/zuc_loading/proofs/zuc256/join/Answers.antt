@@ -1,10 +1,9 @@
 -- `join` fills the cells: after i turns the first i are joined.
 use borrow.Author.Count.{below_none}
-use lib.ListN.{length, length-set}
+use lib.ListN.{length-set}
 use mathlib.Core.Path.{◌≡◌, ◌∙◌, refl}
 use native.Mathlib.Omega.{arith}
-use Prim.Native.Nat.{◌-◌}
-use Rattle.zuc_loading.specs.InnerRows.{joined, place}
+use Rattle.zuc_loading.specs.InnerRows.{joined}
 use Rattle.standard.proofs.Listed.{is-listed, stored}
 use Rattle.zuc_loading.proofs.zuc256.join.Invariants.{cell}
 use Rattle.zuc_loading.proofs.zuc256.join.Goals as goal
