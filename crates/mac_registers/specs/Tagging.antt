@@ -1,6 +1,6 @@
 -- The running rule: a tag in the making at t bits, as numbers, and what starts, message bytes and closings do to it. Nobody need believe it:
 -- the theorems rule-… of mac_laws/proofs/Theorems.antt say that a start, updates and a closing give the standard's tag.
-use Rattle.std.specs.Prelude.{List, [], ◌∷◌, ◌++◌, ℕ, suc, ◌+◌, ◌-◌, ◌*◌, ◌/◌, ◌%◌, ◌^◌, eqb, ltb, drop, length, take, if◌then◌else◌}
+use Rattle.std.specs.Prelude.{List, [], ◌∷◌, ◌++◌, ℕ, suc, ◌+◌, ◌*◌, ◌/◌, ◌%◌, ◌^◌, eqb, ltb, drop, length, take, if◌then◌else◌}
 use Rattle.standard.specs.Notation.{◌⊕◌}
 use Rattle.standard.specs.Bits.{M, bit_of, window, z}
 use Rattle.standard.specs.Generator.{word, word_at}

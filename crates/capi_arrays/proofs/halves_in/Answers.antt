@@ -3,7 +3,7 @@ use lib.ListN.{replicate, take}
 use lib.Seq.{get_or-take}
 use mathlib.Core.Path.{◌∙◌, ap, refl, sym}
 use native.Mathlib.Omega.{arith}
-use Prim.Native.Nat.{ℕ, ◌-◌, ◌*◌, ◌/◌, ◌%◌}
+use Prim.Native.Nat.{ℕ, ◌*◌, ◌/◌, ◌%◌}
 use Rattle.capi_arrays.proofs.Regrouped.{all-filled, cut-filled, cuts, none_filled}
 use Rattle.capi_arrays.specs.Arrays.{regrouped}
 use Rattle.standard.specs.Bits.{bit_of, window}

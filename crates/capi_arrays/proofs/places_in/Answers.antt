@@ -2,7 +2,6 @@
 use lib.ListN.{replicate}
 use mathlib.Core.Path.{◌∙◌, refl}
 use native.Mathlib.Omega.{arith}
-use Prim.Native.Nat.{◌-◌}
 use Rattle.capi_arrays.proofs.Packing.{part-listed}
 use Rattle.capi_arrays.proofs.Regrouped.{all-filled, none_filled, one-filled}
 use Rattle.capi_arrays.proofs.places_in.Goals as goal

@@ -7,7 +7,7 @@ use mathlib.Core.Path.{◌≡◌, ◌∙◌, ap, ap₂, refl, subst, sym}
 use mir.Syntax.{w32}
 use mir.Val.{Fits}
 use native.Mathlib.Omega.{arith}
-use Prim.Native.Nat.{ℕ, ◌+◌, ◌-◌, ◌*◌, ◌^◌, ◌<◌}
+use Prim.Native.Nat.{ℕ, ◌+◌, ◌*◌, ◌^◌, ◌<◌}
 use Rattle.capi_arrays.proofs.Regrouped.{Filled, all-filled, none_filled, one-filled, two-joined}
 use Rattle.capi_arrays.specs.Arrays.{placed, regrouped}
 use Rattle.standard.specs.Bits.{bit_at, window}

@@ -1,6 +1,6 @@
 -- What the loop keeps.
 use mathlib.Core.List.{List, [], ◌∷◌, ◌++◌}
-use Prim.Native.Nat.{ℕ, ◌+◌, ◌-◌, ◌*◌, ◌≤◌}
+use Prim.Native.Nat.{ℕ, ◌-◌, ◌*◌, ◌≤◌}
 use Rattle.capi_arrays.proofs.Regrouped.{Filled}
 use Rattle.standard.specs.Bits.{bit_at, window}
 use Rattle.standard.specs.Notation.{◌⟨◌⟩}

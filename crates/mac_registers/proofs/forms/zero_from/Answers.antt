@@ -1,8 +1,7 @@
 -- `registers::forms::zero_from` meets its contract: the bytes passed are zero, so the rest decides.
 use mathlib.Core.Path.{refl, sym, ap, ◌∙◌}
-use Prim.Native.Nat.{◌-◌}
 use native.Mathlib.Omega.{arith}
-use lib.ListN.{drop, drop_of_length-le, length}
+use lib.ListN.{drop_of_length-le}
 use borrow.Author.Rules.{rules}
 use Rattle.standard.specs.States.{all_zero}
 use Rattle.mac_registers.proofs.Packed.{zero-next, zero-not}
