@@ -1,37 +1,45 @@
 // Keys, bodies and frames read from files.
 ghost use Rattle.std.specs.Prelude.{◌&&◌, ◌≡◌, ◌+◌, ◌≤◌, length};
-ghost use Rattle.io.specs.Counts.{IsPrefixLen};
-ghost use Rattle.frame_files.specs.Stream.{frame_end};
+ghost use Rattle.frame_files.specs.Stream.{IsPrefixLen, frame_end};
 ghost use Rattle.standard.specs.Refusals.{key_test};
 
+use crate::told;
+use std::env::{Env, FillError};
+use std::fs::Files;
+use std::io::{ErrorKind, Read, Write};
+use std::{fs, io, str};
 use words::word_of;
 
-// The bytes that came before the end of a file, or before a read failed.
+// The bytes that came before the end of a file, or before a read failed; and why it failed.
 #[derive(Clone, Copy)]
 pub struct Filled {
     pub bytes: usize,
-    pub failed: bool,
+    pub failed: Option<io::Error>,
 }
 
-// One read. (io::read_full does not tell a read that failed from the end of a file.)
-fn read_once(fd: i32, buf: &mut [u8]) -> Filled
+// One read. (A read_exact of std's does not tell what came before the one that failed.)
+fn read_once<R: Read>(from: &mut R, buf: &mut [u8]) -> Filled
     ensures { IsPrefixLen result.bytes buf.new }
 {
-    let got = libc::read(fd, buf);
-    let bytes = io::count(got, buf);
-    Filled {
-        bytes,
-        failed: got < 0,
+    match from.read(buf) {
+        Ok(bytes) => Filled {
+            bytes,
+            failed: None,
+        },
+        Err(why) => Filled {
+            bytes: 0,
+            failed: Some(why),
+        },
     }
 }
 
 // Fills a buffer from a file.
-fn fill(fd: i32, buf: &mut [u8]) -> Filled
+fn fill<R: Read>(from: &mut R, buf: &mut [u8]) -> Filled
     ensures { IsPrefixLen result.bytes buf.new }
 {
     let mut bytes: usize = 0;
     while bytes < buf.len() {
-        let more = read_once(fd, &mut buf[bytes..]);
+        let more = read_once(from, &mut buf[bytes..]);
         if more.bytes == 0 {
             return Filled {
                 bytes,
@@ -42,29 +50,63 @@ fn fill(fd: i32, buf: &mut [u8]) -> Filled
     }
     Filled {
         bytes,
-        failed: false,
+        failed: None,
+    }
+}
+
+// Opens the file that a command names. (std opens no name that is not UTF-8.)
+fn open<F: Files>(files: &F, name: &[u8]) -> io::Result<F::File> {
+    match str::from_utf8(name) {
+        Ok(path) => fs::open(files, path),
+        Err(_) => Err(io::Error::from(ErrorKind::InvalidFilename)),
+    }
+}
+
+// How many words a command has, its name among them.
+pub fn words_of_command<E: Env>(env: &E) -> usize {
+    for i in 0..usize::MAX {
+        if let Err(FillError::NotPresent) = env.arg(i, &mut []) {
+            return i;
+        }
+    }
+    usize::MAX
+}
+
+// Word i of a command: an empty one where it is missing, or longer than the buffer.
+pub fn word_of_command<E: Env>(env: &E, i: usize, word: &mut [u8]) -> usize
+    ensures { IsPrefixLen result word.new }
+{
+    match env.arg(i, word) {
+        Ok(n) => n,
+        Err(_) => 0,
     }
 }
 
 // A key from the file that word i of the command names: at most 17 bytes, so that a file of more than 16 shows. None where it cannot be
 // read, and standard error is told why.
-pub fn read_key(i: usize, key: &mut [u8; 17]) -> usize
+pub fn read_key<S: Env + Files, W: Write>(
+    system: &S,
+    err: &mut W,
+    i: usize,
+    key: &mut [u8; 17],
+) -> usize
     ensures { IsPrefixLen result key.new }
 {
-    let mut path = io::buffer();
-    let n = os::arg(i, &mut path);
-    let fd = os::open_read(&path[..n]);
-    if fd < 0 {
-        os::fail(&path[..n]);
+    let mut word = [0u8; 4096];
+    let n = word_of_command(system, i, &mut word);
+    let name = &word[..n];
+    let mut file = match open(system, name) {
+        Ok(file) => file,
+        Err(why) => {
+            told::failed(err, name, why);
+            return 0;
+        }
+    };
+    let read = fill(&mut file, key);
+    if let Some(why) = read.failed {
+        told::failed(err, name, why);
         return 0;
     }
-    let read = fill(fd, key);
-    if read.failed {
-        os::fail(&path[..n]);
-        libc::close(fd);
-        return 0;
-    }
-    libc::close(fd);
     read.bytes
 }
 
@@ -79,11 +121,11 @@ pub fn keys_fit(ck: &[u8], ik: &[u8]) -> bool
 }
 
 // A body, put where a writer finds it: one byte more than a frame can hold is read, so that a longer body shows.
-pub fn read_body(fd: i32, frame: &mut [u8]) -> Filled
+pub fn read_body<R: Read>(from: &mut R, frame: &mut [u8]) -> Filled
     requires { length frame.old ≡ 65539 }
     ensures { result.bytes ≤ 65522 }
 {
-    fill(fd, &mut frame[13..65535])
+    fill(from, &mut frame[13..65535])
 }
 
 // Where the first frame of a stream ends.
@@ -96,16 +138,16 @@ pub fn frame_end(stream: &[u8]) -> usize
 }
 
 // The next frame of a stream, and no byte of the one behind it; fewer where the stream ends.
-pub fn read_frame(fd: i32, frame: &mut [u8]) -> Filled
+pub fn read_frame<R: Read>(from: &mut R, frame: &mut [u8]) -> Filled
     requires { length frame.old ≡ 65538 }
     ensures { (result.bytes ≤ 65538) × (result.bytes ≤ frame_end frame.new) }
 {
-    let least = fill(fd, &mut frame[0..17]);
+    let least = fill(from, &mut frame[0..17]);
     if least.bytes < 17 {
         return least;
     }
     let end = frame_end(frame);
-    let rest = fill(fd, &mut frame[17..end]);
+    let rest = fill(from, &mut frame[17..end]);
     Filled {
         bytes: 17 + rest.bytes,
         failed: rest.failed,
