@@ -15,9 +15,9 @@ overflow_add-result-2 c =
       arith,
       c.requires,
       c.ranges.n.fits,
-      units-are a.unit a a.n (omega (arith, c.requires)),
-      words-most 1 a.unit (a + a.n) (omega (arith, c.requires)),
+      units-are a.unit a.before a.n (omega (arith, c.requires)),
+      words-most 1 a.unit (a.before + a.n) (omega (arith, c.requires)),
     )
 
 pub returns : goal.returns
-returns c = let a = c.args in units-are a.unit a a.n (omega (arith, c.requires))
+returns c = let a = c.args in units-are a.unit a.before a.n (omega (arith, c.requires))

@@ -2,7 +2,7 @@
 use lib.ListN.{length, length-drop, length-take}
 use mathlib.Core.Path.{◌≡◌, refl, ◌∙◌, subst, sym}
 use native.Mathlib.Omega.{arith}
-use Prim.Native.Nat.{ℕ, ◌+◌, ◌*◌, ◌-◌, ◌/◌, ◌<◌}
+use Prim.Native.Nat.{ℕ, ◌+◌, ◌*◌, ◌/◌, ◌<◌}
 use Rattle.standard.proofs.Each.{from_end, from-start}
 use Rattle.standard.proofs.Generator.{after_none}
 use Rattle.standard.specs.Confidentiality.{masked}

@@ -4,7 +4,7 @@ use mathlib.Core.Path.{◌≡◌}
 use Prim.Native.Nat.{◌-◌, ◌/◌, ◌%◌, ◌≤◌}
 use Rattle.standard.proofs.Each.{done_from}
 use Rattle.standard.specs.Confidentiality.{masked}
-use Rattle.standard.specs.Generator.{after, word, word_at}
+use Rattle.standard.specs.Generator.{after, word_at}
 use Rattle.zuc_turn.specs.InnerRun.{Standing, state_at}
 use Rattle.mask_bulk.proofs.mask_on.Given as goal
 

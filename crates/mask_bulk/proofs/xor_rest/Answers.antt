@@ -1,9 +1,9 @@
 -- `xor_rest`: at place j what is left to do is the mask from j on; a store does place j.
 use mathlib.Core.Path.{◌≡◌, refl, sym, ap, ◌∙◌}
-use Prim.Native.Nat.{ℕ, ◌<◌, ◌-◌}
+use Prim.Native.Nat.{ℕ, ◌<◌}
 use native.Mathlib.Nat.{mod-eq_of_lt}
 use native.Mathlib.Omega.{arith}
-use lib.ListN.{length, length-set, get_or}
+use lib.ListN.{length-set, get_or}
 use Rattle.standard.specs.Notation.{◌⊕◌}
 use Rattle.standard.specs.Confidentiality.{masked}
 use Rattle.standard.specs.Bits.{byte_of}
