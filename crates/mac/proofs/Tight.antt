@@ -5,7 +5,8 @@ use mathlib.Core.Path.{◌≡◌, ◌∙◌, ap, refl, sym}
 use Prim.Native.Nat.{ℕ}
 use lib.Dec.{eqb}
 use Rattle.standard.proofs.Promise.{AsksNothing, Tight}
-use Rattle.standard.specs.Notation.{◌⟨◌⟩, if◌then◌else◌}
+use Rattle.std.specs.Prelude.{if◌then◌else◌}
+use Rattle.standard.specs.Notation.{◌⟨◌⟩}
 use Rattle.standard.specs.Refusals.{accepted, bad_bits, bad_field, bad_iv, bad_key, bad_state, bad_width}
 use Rattle.zuc.specs.declared.Generator.{Generator}
 use Rattle.zuc.specs.declared.Zuc.{Zuc}

@@ -6,7 +6,6 @@ use native.Mathlib.Omega.{arith}
 use lib.ListN.{drop, length, length-drop, take}
 use lib.Seq.{length-take-le}
 use borrow.Author.Rules.{rules}
-use Rattle.standard.specs.States.{moved}
 use Rattle.mac_registers.proofs.Fresh.{fresh-lt}
 use Rattle.mac_blocks.proofs.Ahead.{fed-all, fed-none, fed-on, room}
 use Rattle.mac_blocks.proofs.feed_all.Goals as goal

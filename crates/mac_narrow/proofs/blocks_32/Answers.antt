@@ -1,5 +1,5 @@
 -- `blocks_32` takes in part by part: at place i the run and what the loop carries stand for the state after the bytes up to i.
-use lib.ListN.{drop, length, length-drop, length-take, take}
+use lib.ListN.{drop, length-drop, length-take, take}
 use mathlib.Core.List.{List}
 use mathlib.Core.Path.{◌≡◌, refl, ◌∙◌, ap, sym}
 use native.Mathlib.Omega.{arith}

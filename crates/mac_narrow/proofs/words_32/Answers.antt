@@ -1,10 +1,10 @@
 -- `words_32` takes in a block a turn: after j turns the run and the halves stand for the state after j draws, and 4 j bytes are in the tag.
 -- what the run and the registers stand for at the loop's begin, with the index
-use lib.ListN.{length, length-drop, length-take, take}
+use lib.ListN.{length, length-drop, length-take}
 use lib.Seq.{take_all}
 use mathlib.Core.Path.{◌≡◌, ◌∙◌, ap, subst, sym}
 use native.Mathlib.Omega.{arith}
-use Prim.Native.Nat.{ℕ, ◌+◌, ◌*◌, ◌/◌, ◌-◌}
+use Prim.Native.Nat.{ℕ, ◌+◌, ◌*◌, ◌/◌}
 use Rattle.standard.proofs.Generator.{after_none}
 use Rattle.standard.proofs.Held.{moved-is, moved_none}
 use Rattle.standard.specs.Generator.{State, after}
