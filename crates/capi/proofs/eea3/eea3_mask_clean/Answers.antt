@@ -1,0 +1,6 @@
+-- `eea3_mask_clean` puts the answer of the call.
+use mathlib.Core.Path.{◌∙◌}
+use Rattle.capi.proofs.eea3.eea3_mask_clean.Goals as goal
+
+pub returns : goal.returns
+returns c = c.put_once.ensures _ ∙ c.mask_clean-answer.ensures
