@@ -70,7 +70,7 @@ module _ (t : ℕ) where
   pub alike-updated : {st st' : Tagging} (message : List ℕ) → AlikeTagging st st' → AlikeTagging (updated t st message) (updated t st' message)
   unfolding updated
   alike-updated [] e = e
-  alike-updated (byte ∷ rest) e = alike-updated rest (alike-absorbed byte e)
+  alike-updated {st = st} {st' = st'} (byte ∷ rest) e = alike-updated {st = absorbed t st byte} {st' = absorbed t st' byte} rest (alike-absorbed byte e)
 
 -- a closing
 module _ (t : ℕ) {st st' : Tagging} (e : AlikeTagging st st') (tail : List ℕ) (l : ℕ) where
