@@ -56,7 +56,7 @@ abbrev pub drawn_by_tag-ZUC256 : ℕ → ℕ → ℕ
 drawn_by_tag-ZUC256 t l = t / 32 * (3 + l / t)
 
 -- Request 2026-09: the words that a call draws of a tag state where some bytes wait, so that the count comes to those numbers: an update
--- of N bytes, and a closing by l bits. (A start draws drawnAfter of 0 bytes, a one-shot drawn_by_tag)
+-- of N bytes, and a closing by l bits. (A start draws drawn_after of 0 bytes, a one-shot drawn_by_tag)
 abbrev pub words_to_update : (t waiting N : ℕ) → ℕ
 words_to_update t waiting N = t / 32 * (8 * (waiting + N) / t)
 

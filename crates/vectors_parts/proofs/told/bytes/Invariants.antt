@@ -1,4 +1,4 @@
--- What the loop keeps.
+-- `bytes` stays inside the bytes.
 use Rattle.std.proofs.Common.{◌≡◌, ◌-◌, length}
 use Rattle.vectors_parts.proofs.told.bytes.Given as goal
 
