@@ -1,5 +1,4 @@
 -- `words_of`: after i turns the first i entries are two places each; the last one is the registers.
--- places and registers, and the word that joins two of them
 use lib.ListN.{get_or-append, length, replicate, set}
 use lib.Seq.{get_or-append-add}
 use mathlib.Core.List.{List, [], ◌∷◌, ◌++◌}

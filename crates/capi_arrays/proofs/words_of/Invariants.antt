@@ -7,6 +7,7 @@ use Rattle.standard.specs.Notation.{◌⟨◌⟩}
 use Rattle.zuc.specs.declared.Zuc.{Zuc}
 use Rattle.capi_arrays.proofs.words_of.Given as goal
 
+-- places and registers, and the word that joins two of them
 abbrev pub flat : Zuc → List ℕ
 flat z = z.s ++ (z.r1 ∷ z.r2 ∷ [])
 

@@ -1,5 +1,4 @@
 -- `is_formed` is the standard's test: the places are tested as the cells are, then the index and the count.
--- the whole test, by those of the places and the index
 use borrow.Author.Tests.{le-ltb, lt-ltb, not-false, not-true}
 use lib.Dec.{leb, ltb}
 use lib.ListN.{take}
@@ -15,6 +14,7 @@ use Rattle.zuc.proofs.Turning.{same_test}
 use borrow.Author.Rules.{rules}
 use Rattle.capi_draw.proofs.is_formed.Goals as goal
 
+-- the whole test, by those of the places and the index
 whole : (a : List ℕ) {b d : Bool} → well_formed (take 16 a) ≡ b → ltb (a ⟨ 18 ⟩) 16 ≡ d → (b && d) && leb (a ⟨ 19 ⟩) limit ≡ generator_formed (held_in a)
 unfolding generator_formed held_formed held_in held_from
 whole a e f = ap₂ (λ (b d : Bool). (b && d) && leb (a ⟨ 19 ⟩) limit) (sym (same_test (a ⟨ 18 ⟩) (take 16 a) ∙ e)) (sym f)

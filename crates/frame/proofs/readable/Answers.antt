@@ -1,5 +1,4 @@
 -- `readable`: the first test that fails is the answer; the limit's passes, since a bit length has 32 bits.
--- what each test that passed says
 use mathlib.Core.Bool.{true, false}
 use mathlib.Core.Path.{◌≡◌, refl, sym, ap, ap₂, ◌∙◌}
 use Prim.Native.Nat.{◌+◌, ◌-◌, ◌^◌, ◌<◌}

@@ -1,5 +1,4 @@
 -- `feed` meets its contract: the words that the generator draws next are those of the part's blocks.
--- the array before the words
 use mathlib.Core.List.{List, ◌++◌}
 use mathlib.Core.Path.{◌≡◌, refl, sym, ap, ◌∙◌}
 use Prim.Native.Nat.{ℕ, ◌*◌, ◌/◌}
@@ -20,6 +19,7 @@ use Rattle.mac_blocks.proofs.Ahead.{emptied-is}
 use Rattle.mac_blocks.proofs.Moves.{emptied-held}
 use Rattle.mac_blocks.proofs.feed.Goals as goal
 
+-- the array before the words
 abbrev zeros : List ℕ
 zeros = replicate 64 0
 

@@ -1,5 +1,4 @@
 -- `words_32` takes in a block a turn: after j turns the run and the halves stand for the state after j draws, and 4 j bytes are in the tag.
--- what the run and the registers stand for at the loop's begin, with the index
 use lib.ListN.{length, length-drop, length-take}
 use lib.Seq.{take_all}
 use mathlib.Core.Path.{◌≡◌, ◌∙◌, ap, subst, sym}

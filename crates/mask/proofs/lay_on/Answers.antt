@@ -1,5 +1,4 @@
 -- `lay_on`: start-up, or the state laid, as the test says.
--- as the test came out
 use mathlib.Core.Bool.{Bool}
 use mathlib.Core.List.{List}
 use mathlib.Core.Path.{◌≡◌, ◌∙◌, ap, subst, sym}
@@ -10,6 +9,7 @@ use Rattle.zuc_turn.specs.InnerRun.{Standing}
 use Rattle.mask.specs.Inner.{InPlace, drawn_from}
 use Rattle.mask.proofs.lay_on.Goals as goal
 
+-- as the test came out
 told : {b b' : Bool} (z : Zuc) {run pairs : List ℕ} {h : Halves} → b ≡ b' → Standing run pairs 0 h (drawn_from b' z) → Standing run pairs 0 h (drawn_from b z)
 told z e standing =
     record { laid = standing.laid; low = standing.low; state = standing.state ∙ ap (λ (c : Bool). drawn_from c z) (sym e) }

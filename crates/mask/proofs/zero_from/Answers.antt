@@ -1,10 +1,8 @@
 -- `zero_from`: at place i what is left to do is to zero from i on; a store of 0 does place i.
 use mathlib.Core.Path.{refl, sym, ◌∙◌}
-use Prim.Native.Nat.{◌-◌}
 use native.Mathlib.Omega.{arith}
-use lib.ListN.{length, length-set}
+use lib.ListN.{length-set}
 use Rattle.standard.proofs.Each.{from-same, from_end, from-store}
-use Rattle.mask.specs.Inner.{zeroed}
 use Rattle.mask.proofs.Clear.{zeroed-before, zeroed-past}
 use Rattle.mask.proofs.zero_from.Goals as goal
 

@@ -122,6 +122,6 @@ returns-in_default c =
     ∙ once-256-is a.key.now a.iv.now a.width a.message.now a.l in
     let a = c.args in
     let key : start_number c.new_with_d-start.result.answer ≡ bad_key =
-        key-refused-256 c.new_with_d-start.result.answer c.in_default.in_default-own.keys4
+    key-refused-256 c.new_with_d-start.result.answer c.in_default.in_default-own.keys4
     (λ e. no-field-256 a.width a.key.now a.iv.now (ap (λ (o : StartOutcome). o.number) (sym c.new_with_d-start.ensures) ∙ e)) in
     sym (rw key refl) ∙ told

@@ -1,5 +1,4 @@
 -- `mac::zuc256::new` meets its contract: each answer of the keystream's start keeps its number; else a tag state of the width.
--- the start was accepted
 use mathlib.Core.Path.{◌≡◌, refl, sym, ap, ap₂, ◌∙◌, subst}
 use Prim.Native.Nat.{ℕ, ◌*◌, ◌/◌}
 use Rattle.keystream.specs.declared.StartAnswer.{StartAnswer}

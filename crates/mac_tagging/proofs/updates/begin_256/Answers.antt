@@ -1,5 +1,4 @@
 -- `begin_256` meets its contract: of the first words a third is the tag, and the others are the key pair.
--- the array before the words
 use mathlib.Core.List.{List, ◌++◌}
 use mathlib.Core.Path.{◌≡◌, sym, ap, ◌∙◌}
 use Prim.Native.Nat.{ℕ, ◌*◌, ◌/◌, ◌≤◌}
@@ -17,6 +16,7 @@ use Rattle.mac_registers.proofs.Packed.{width-most}
 use Rattle.mac_tagging.proofs.Starts.{begun-256}
 use Rattle.mac_tagging.proofs.updates.begin_256.Goals as goal
 
+-- the array before the words
 abbrev zeros : List ℕ
 zeros = replicate 12 0
 

@@ -1,5 +1,4 @@
 -- `mask_by`: the cells loaded are in range, and the words of what start-up makes of them are the keystream.
--- what was loaded, of EEA3's IV
 use lib.Dec.{lit<}
 use mathlib.Core.Path.{◌≡◌, ◌∙◌, ap, subst, sym}
 use native.Mathlib.Omega.{arith}

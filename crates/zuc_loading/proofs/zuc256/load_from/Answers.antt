@@ -1,5 +1,4 @@
 -- `load_from` is the paper's list of cells: the bytes at the table's places are those that the list names, computed.
--- the middles: constants p that stand alone, and constants d with bits beside them
 use lib.Bits.{or_zero_r}
 use lib.ListN.{drop, get_or, take}
 use mathlib.Core.List.{List, [], ◌∷◌, ◌++◌}
@@ -14,6 +13,7 @@ use Rattle.standard.specs.Notation.{◌‖₇◌, ◌‖₈◌, ◌∣◌, liste
 use borrow.Author.Rules.{rules}
 use Rattle.zuc_loading.proofs.zuc256.load_from.Goals as goal
 
+-- the middles: constants p that stand alone, and constants d with bits beside them
 abbrev middles : (ℕ → ℕ) → (ℕ → ℕ) → (ℕ → ℕ) → (ℕ → ℕ) → List ℕ
 middles K p d IV =
     listed p 0 5 ++ (listed (λ i. d i ∣ IV (12 + i)) 5 8 ++ (p 13 ∷ (d 14 ∣ K 31 / 2 ^ 4) ∷ (d 15 ∣ K 31 % 2 ^ 4) ∷ []))
