@@ -1,6 +1,7 @@
 //! Finds or makes the static library `libcapi.a`, and has it linked.
 
 use std::env;
+use std::fs;
 use std::path::{Path, PathBuf};
 use std::process::{exit, Command};
 
@@ -26,23 +27,35 @@ fn main() {
     println!("cargo:rustc-link-lib=static=capi");
 }
 
-/// Runs `rt staticlib capi`, which proves the library and then compiles it.
+/// Runs `tools/staticlib`, which proves the library and then compiles it.
 /// What has not changed since it was last proved is not proved again.
 fn prove_and_build(root: &Path) -> PathBuf {
     let machine = env::var("CARGO_CFG_TARGET_ARCH").expect("cargo sets it");
     if machine != "x86_64" {
         fail(&format!(
-            "`rt staticlib` compiles for x86-64, not for {machine}"
+            "`tools/staticlib` compiles for x86-64, not for {machine}"
         ));
     }
-    for source in ["crates.txt", "crates"] {
-        println!("cargo:rerun-if-changed={}", root.join(source).display());
+    println!(
+        "cargo:rerun-if-changed={}",
+        root.join("crates.txt").display()
+    );
+    // Not the crates' whole folders: what a proof leaves in them is no source.
+    let crates = root.join("crates");
+    let there = fs::read_dir(&crates)
+        .unwrap_or_else(|error| fail(&format!("{}: {error}", crates.display())));
+    for name in there.flatten() {
+        for part in ["src", "specs", "proofs"] {
+            let sources = name.path().join(part);
+            if sources.is_dir() {
+                println!("cargo:rerun-if-changed={}", sources.display());
+            }
+        }
     }
-    let mut rt = Command::new("rt");
-    match rt.args(["staticlib", "capi"]).current_dir(root).output() {
-        Err(error) => fail(&format!("rt: {error}")),
+    match Command::new(root.join("tools/staticlib")).output() {
+        Err(error) => fail(&format!("tools/staticlib: {error}")),
         Ok(run) if !run.status.success() => fail(&format!(
-            "rt staticlib capi: {}\n{}{}",
+            "tools/staticlib: {}\n{}{}",
             run.status,
             String::from_utf8_lossy(&run.stdout),
             String::from_utf8_lossy(&run.stderr)

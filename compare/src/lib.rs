@@ -54,7 +54,7 @@ pub mod walks;
 /// Which library is linked.
 pub fn library() -> &'static str {
     match option_env!("YEGETMUR_LIB_DIR") {
-        None | Some("") => "libcapi.a by rt staticlib",
+        None | Some("") => "libcapi.a by tools/staticlib",
         Some(_) => "libcapi.a by YEGETMUR_LIB_DIR",
     }
 }
