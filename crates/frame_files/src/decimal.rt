@@ -46,6 +46,7 @@ fn value(digits: &[u8]) -> Number
 }
 
 // The number that a word of decimal digits is. An empty word is none.
+#[tactic(auto, unfolding(crate::specs::Decimal::number_in))]
 pub fn number_in(text: &[u8]) -> Number
     ensures { result ≡ number_in text.now }
 {

@@ -1,13 +1,9 @@
 -- `number_in`: an empty word, one that is not all digits, or the value of its digits.
 use Rattle.std.proofs.Common.{arith, sym, ◌∙◌}
 use Rattle.std.proofs.Common.{true, ◌≡◌, ◌<◌, length}
-use Rattle.std.proofs.lemmas.Bool.{le-ltb, lt-ltb}
+use Rattle.std.proofs.lemmas.Bool.{lt-ltb}
 use Rattle.frame_files.specs.Decimal.{all_digits, number_in}
 use Rattle.frame_files.proofs.decimal.number_in.Goals as goal
-
-pub returns-then-text-eq0 : goal.returns-then-text-eq0
-unfolding number_in
-returns-then-text-eq0 c = rw (le-ltb 0 (length c.args.text.now) (omega arith))
 
 pub returns-then-not-all_digits : goal.returns-then-not-all_digits
 unfolding number_in
