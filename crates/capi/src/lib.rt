@@ -1,4 +1,4 @@
-// The exported C functions (include/zuc.h): states are arrays of numbers that the caller lends.
+// The functions that C calls (include/zuc.h), which `capi_c` exports: states are arrays of numbers that the caller lends.
 #![tactic(auto)]
 
 pub mod eea3;

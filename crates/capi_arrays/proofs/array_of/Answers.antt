@@ -26,6 +26,6 @@ returns c =
     search rules in
     let g = c.args.g in
     let z = g.z in
-    let places = all_listed z.s 16 (full) ∙ sym (places-back z.start z.s) in
+    let places = all_listed z.s 16 full ∙ sym (places-back z.start z.s) in
     let is = ap (λ (s : List _). (s ++ (z.r1 ∷ z.r2 ∷ [])) ++ (z.start ∷ g.count ∷ [])) places in
     record { is = is; back = ap held_in is ∙ array-held (counted_of g) (length_from z.start z.s ∙ full) }

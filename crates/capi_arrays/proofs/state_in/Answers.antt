@@ -29,4 +29,4 @@ returns c =
           };
       count = a ⟨ 19 ⟩;
     } in
-    record { is = is; back = ap array_of is ∙ held-array a (full); small = ((fits 18).fits, (fits 19).fits) }
+    record { is = is; back = ap array_of is ∙ held-array a full; small = ((fits 18).fits, (fits 19).fits) }

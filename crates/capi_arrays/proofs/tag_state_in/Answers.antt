@@ -33,4 +33,4 @@ returns c =
           };
       count = a ⟨ 10 ⟩;
     } in
-    record { is = is; back = ap tag_array_of is ∙ stored-array a (full) (λ k h. (fits k).fits) }
+    record { is = is; back = ap tag_array_of is ∙ stored-array a full (λ k h. (fits k).fits) }

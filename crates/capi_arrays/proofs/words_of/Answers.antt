@@ -53,7 +53,7 @@ returns c =
     let z = c.args.z in
     let a : List ℕ = flat z in
     let last : (k : ℕ) → (z.r1 ∷ z.r2 ∷ []) ⟨ k ⟩ ≡ a ⟨ 16 + k ⟩ =
-    λ k. sym (ap (λ (n : ℕ). a ⟨ n + k ⟩) (sym (full)) ∙ get_or-append-add z.s (z.r1 ∷ z.r2 ∷ []) k 0) in
+    λ k. sym (ap (λ (n : ℕ). a ⟨ n + k ⟩) (sym full) ∙ get_or-append-add z.s (z.r1 ∷ z.r2 ∷ []) k 0) in
     let at_8 : 8 ≡ l.i = omega arith in
     all-filled (entry a) 9 9 _ refl
     (subst (λ (n : ℕ). Filled (entry a) 9 (n + 1) (set l.words n c.joined-2.result)) (sym at_8)

@@ -27,7 +27,7 @@ pub slice_bounds-words_on-end : goal.slice_bounds-words_on-end
 slice_bounds-words_on-end c =
     let room : length (take (length c.args.part.now / 4) zeros) ≡ length c.args.part.now / 4 =
     length-take-le _ zeros (omega (arith, c.requires.blocks.1)) in
-    sym (room)
+    sym room
 
 pub words_on-next-requires : goal.words_on-next-requires
 words_on-next-requires c =
@@ -43,7 +43,7 @@ slice_bounds-feed_all-end c =
     let ys = c.words_on-next.new.out in
     let drawn : length ys ≡ n = ap length c.words_on-next.ensures.words ∙ length-listed _ 0 _ ∙ room in
     omega (arith, length-append ys (drop n zeros), drawn, length-drop n zeros, c.requires.blocks.1) in
-    sym (long)
+    sym long
 
 pub feed_all-fed-requires : goal.feed_all-fed-requires
 feed_all-fed-requires c =
@@ -78,7 +78,7 @@ returns c =
         rest = at_rest drew.standing;
         stored =
             ap (λ (τ : Held). empty_of w τ f.result.key f.result.tag)
-            (moved-is n σ holds.good.sound.start (drew.standing.state ∙ ap (λ (k : ℕ). after k σ.meaning) (room)) c.index_after.ensures)
+            (moved-is n σ holds.good.sound.start (drew.standing.state ∙ ap (λ (k : ℕ). after k σ.meaning) room) c.index_after.ensures)
             ∙ f.ensures σ (emptied-held (stored_at a.run.now o) holds) (filled (word_at σ.meaning) n _ zeros _ drew.words (omega (arith, c.requires.blocks.1)))
             ∙ ap (λ (st : Tagging). packed w (updated (w * 8) st a.part.now)) (emptied-is (stored_at a.run.now o) c.requires.blocks.0);
       },

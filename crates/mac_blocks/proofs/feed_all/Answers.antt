@@ -21,7 +21,7 @@ overflow_add-e c =
     × (c.loop-i.i % 4 ≡ 0)
     × (0 < c.args.width) =
     room c.requires.width_fits c.loop-i.i (length c.args.part.now) c.loop-i.invariant.1.0 c.requires.part_fits.1.0 c.loop-i.invariant.1.1 c.requires.part_fits.1.1 c.loop-i-test.true in
-    let known = (fits).0 in search rules
+    let known = fits.0 in search rules
 
 pub slice_bounds-tag_with-end : goal.slice_bounds-tag_with-end
 slice_bounds-tag_with-end c =
@@ -29,7 +29,7 @@ slice_bounds-tag_with-end c =
     × (c.loop-i.i % 4 ≡ 0)
     × (0 < c.args.width) =
     room c.requires.width_fits c.loop-i.i (length c.args.part.now) c.loop-i.invariant.1.0 c.requires.part_fits.1.0 c.loop-i.invariant.1.1 c.requires.part_fits.1.1 c.loop-i-test.true in
-    let known = (fits).0 in omega arith
+    let known = fits.0 in omega arith
 
 pub tag_with-sum-requires : goal.tag_with-sum-requires
 tag_with-sum-requires c =
@@ -41,7 +41,7 @@ tag_with-sum-requires c =
     ≡ c.args.width =
     let a = c.args in
     let n : c.loop-i.i + a.width - c.loop-i.i ≡ a.width = omega arith in
-    length-take-le _ (drop c.loop-i.i a.part.now) (omega (arith, (fits).0, length-drop c.loop-i.i a.part.now)) ∙ n in
+    length-take-le _ (drop c.loop-i.i a.part.now) (omega (arith, fits.0, length-drop c.loop-i.i a.part.now)) ∙ n in
     record { width_fits = c.requires.width_fits; block_fits = omega (arith, block-length) }
 
 pub fresh_at-fresh-requires : goal.fresh_at-fresh-requires
@@ -50,7 +50,7 @@ fresh_at-fresh-requires c =
     × (c.loop-i.i % 4 ≡ 0)
     × (0 < c.args.width) =
     room c.requires.width_fits c.loop-i.i (length c.args.part.now) c.loop-i.invariant.1.0 c.requires.part_fits.1.0 c.loop-i.invariant.1.1 c.requires.part_fits.1.1 c.loop-i-test.true in
-    record { width_fits = c.requires.width_fits; words_fit = omega (arith, (fits).0, (fits).1, c.requires.part_fits.0) }
+    record { width_fits = c.requires.width_fits; words_fit = omega (arith, fits.0, fits.1, c.requires.part_fits.0) }
 
 pub key_on-moved-requires : goal.key_on-moved-requires
 key_on-moved-requires c =
@@ -74,13 +74,13 @@ loop-i-preserved c =
     ≡ c.args.width =
     let a = c.args in
     let n : c.loop-i.i + a.width - c.loop-i.i ≡ a.width = omega arith in
-    length-take-le _ (drop c.loop-i.i a.part.now) (omega (arith, (fits).0, length-drop c.loop-i.i a.part.now)) ∙ n in
+    length-take-le _ (drop c.loop-i.i a.part.now) (omega (arith, fits.0, length-drop c.loop-i.i a.part.now)) ∙ n in
     let a = c.args in
     let n = c.loop-i.invariant.1.0 in (
-      (fits).0,
+      fits.0,
       (suc n, omega (arith, c.loop-i.invariant.1.1, suc-mul n a.width)),
       λ σ h e. fed-on a.width a.key a.tag a.words.now a.part.now σ h e c.loop-i.i c.loop-i.fed.key c.loop-i.fed.tag _ _ _
-          (c.loop-i.invariant.2 σ h e) (fits).1 (fits).0 (block-length) c.tag_with-sum.ensures c.fresh_at-fresh.ensures c.key_on-moved.ensures,
+          (c.loop-i.invariant.2 σ h e) fits.1 fits.0 block-length c.tag_with-sum.ensures c.fresh_at-fresh.ensures c.key_on-moved.ensures,
     )
 
 pub returns : goal.returns

@@ -31,18 +31,18 @@ nonzero_rem-result c =
     let short : (0 < c.args.width) × (c.args.left % c.args.width ≤ c.args.left)
     × Portion c.args.width c.args.left (c.args.left - c.args.left % c.args.width) =
     cut c.args.width c.args.left c.requires (omega (arith, c.if-left-ge256.false)) in
-    (short).0
+    short.0
 
 pub overflow_sub-result : goal.overflow_sub-result
 overflow_sub-result c =
     let short : (0 < c.args.width) × (c.args.left % c.args.width ≤ c.args.left)
     × Portion c.args.width c.args.left (c.args.left - c.args.left % c.args.width) =
     cut c.args.width c.args.left c.requires (omega (arith, c.if-left-ge256.false)) in
-    (short).1
+    short.1
 
 pub returns : goal.returns
 returns c =
     let short : (0 < c.args.width) × (c.args.left % c.args.width ≤ c.args.left)
     × Portion c.args.width c.args.left (c.args.left - c.args.left % c.args.width) =
     cut c.args.width c.args.left c.requires (omega (arith, c.if-left-ge256.false)) in
-    (short).2
+    short.2

@@ -22,27 +22,11 @@ loop-i-init c =
     let none : c.args.from - c.args.from ≡ 0 = omega arith in
     (c.requires.aligned.1, (0, omega arith), record { laid = opened.rest.laid; low = opened.rest.low; start = opened.holds.good.sound.start; tagging = rw none refl })
 
-pub overflow_mul-message : goal.overflow_mul-message
-overflow_mul-message c =
-    omega arith
-
-pub overflow_add-e : goal.overflow_add-e
-overflow_add-e c =
-    omega arith
-
-pub slice_bounds-words_32-end : goal.slice_bounds-words_32-end
-slice_bounds-words_32-end c =
-    omega arith
-
 pub words_32-s-requires : goal.words_32-s-requires
 words_32-s-requires c =
     let pre = c.requires in
     let inv = c.loop-i.invariant in
     record { high = pre.high; low = pre.low; laid = inv.2.laid; halves = (inv.2.low, inv.2.start); part_fits = (simp (length-take, length-drop) (omega arith), simp (length-take, length-drop) (omega arith)) }
-
-pub loop-i-smaller : goal.loop-i-smaller
-loop-i-smaller c =
-    omega arith
 
 pub loop-i-preserved : goal.loop-i-preserved
 loop-i-preserved c =

@@ -27,26 +27,6 @@ loop-j-init c =
       ap (λ (k : Held). idle k c.args.start.key c.args.start.tag) (moved_none _),
     )
 
-pub overflow_mul-b : goal.overflow_mul-b
-overflow_mul-b c =
-    omega arith
-
-pub overflow_add-e : goal.overflow_add-e
-overflow_add-e c =
-    omega arith
-
-pub slice_bounds-sum_32-count : goal.slice_bounds-sum_32-count
-slice_bounds-sum_32-count c =
-    omega arith
-
-pub slice_bounds-sum_32-start : goal.slice_bounds-sum_32-start
-slice_bounds-sum_32-start c =
-    omega arith
-
-pub slice_bounds-sum_32-end : goal.slice_bounds-sum_32-end
-slice_bounds-sum_32-end c =
-    omega arith
-
 pub sum_32-tag-requires : goal.sum_32-tag-requires
 sum_32-tag-requires c = simp (length-take, length-drop) (omega (arith, c.loop-j-test.true, c.loop-j.invariant.2))
 
@@ -59,10 +39,6 @@ turn-t-requires c =
 pub overflow_step-j : goal.overflow_step-j
 overflow_step-j c =
     omega (arith, c.loop-j-test.true, c.loop-j.invariant.1)
-
-pub loop-j-smaller : goal.loop-j-smaller
-loop-j-smaller c =
-    omega arith
 
 pub loop-j-preserved : goal.loop-j-preserved
 loop-j-preserved c =
@@ -89,14 +65,6 @@ rest-requires c =
 
 pub index_after-requires : goal.index_after-requires
 index_after-requires c = c.requires.halves.1
-
-pub shape_of-run : goal.shape_of-run
-shape_of-run c =
-    omega arith
-
-pub shape_of-pairs : goal.shape_of-pairs
-shape_of-pairs c =
-    omega arith
 
 pub returns : goal.returns
 returns c =

@@ -51,4 +51,4 @@ returns-in_default c =
     let small : c.joined-in_default-2.result < 2 ^ 64 =
     search rules in
     let a = c.args in
-    fresh-16 a.words.now (λ i. (c.shared_slice_known-1.given i).fits) a.width a.at (wide) _ _ (small) c.joined-in_default.ensures c.joined-in_default-2.ensures
+    fresh-16 a.words.now (λ i. (c.shared_slice_known-1.given i).fits) a.width a.at wide _ _ small c.joined-in_default.ensures c.joined-in_default-2.ensures

@@ -16,45 +16,36 @@ use Rattle.mask.specs.Modes.{mode_mask, mode_words}
 use Rattle.mask.specs.Outcome.{Outcome, drawn, mask_tested, refused}
 use Rattle.mask.proofs.Outcomes.{Call, bad-bits, bad-first, done, mode-mask, too_many}
 use borrow.Author.Rules.{rules}
+use mathlib.Core.Bool.{Bool}
+use mathlib.Core.List.{List}
+use Rattle.standard.specs.States.{Counted, Held}
 use Rattle.mask.proofs.mask.Goals as goal
+
+-- what a mask is told by: its tests in their order, and what each end hands back
+abbrev call : (clean : Bool) (g : Counted Held) (bits : ℕ) (buf : List ℕ) → Call Outcome
+call clean g bits buf =
+    let n = mode_words clean bits buf in
+    record {
+      first = state_test (generator_formed g);
+      L = bits;
+      buffer = buf;
+      count = g.count;
+      words = n;
+      refused = refused g buf;
+      answer = drawn n g (mode_mask clean (word_at g.held.meaning) bits buf);
+    }
 
 pub returns-then-not-is_formed : goal.returns-then-not-is_formed
 unfolding mask_tested
 returns-then-not-is_formed c =
-    let call : Call Outcome =
-    let a = c.args in
-    let g = counted_of a.state in
-    let n = mode_words a.clean a.bits a.buf.now in
-    record {
-      first = state_test (generator_formed g);
-      L = a.bits;
-      buffer = a.buf.now;
-      count = g.count;
-      words = n;
-      refused = refused g a.buf.now;
-      answer = drawn n g (mode_mask a.clean (word_at g.held.meaning) a.bits a.buf.now);
-    } in
-    bad-first call (sym c.is_formed.ensures ∙ not-true _ c.if-not-is_formed.true-raw)
+    bad-first (call c.args.clean (counted_of c.args.state) c.args.bits c.args.buf.now) (sym c.is_formed.ensures ∙ not-true _ c.if-not-is_formed.true-raw)
 
 pub returns-then-not-bits_fit : goal.returns-then-not-bits_fit
 unfolding mask_tested
 returns-then-not-bits_fit c =
-    let call : Call Outcome =
-    let a = c.args in
-    let g = counted_of a.state in
-    let n = mode_words a.clean a.bits a.buf.now in
-    record {
-      first = state_test (generator_formed g);
-      L = a.bits;
-      buffer = a.buf.now;
-      count = g.count;
-      words = n;
-      refused = refused g a.buf.now;
-      answer = drawn n g (mode_mask a.clean (word_at g.held.meaning) a.bits a.buf.now);
-    } in
     let formed : generator_formed (counted_of c.args.state) ≡ true =
     sym c.is_formed.ensures ∙ not-false _ c.if-not-is_formed.false-raw in
-    bad-bits call formed (sym c.bits_fit.ensures ∙ not-true _ c.if-not-bits_fit.true-raw)
+    bad-bits (call c.args.clean (counted_of c.args.state) c.args.bits c.args.buf.now) formed (sym c.bits_fit.ensures ∙ not-true _ c.if-not-bits_fit.true-raw)
 
 pub has_left-requires : goal.has_left-requires
 has_left-requires c =
@@ -67,24 +58,11 @@ has_left-requires c =
 pub returns-then-not-has_left : goal.returns-then-not-has_left
 unfolding mask_tested
 returns-then-not-has_left c =
-    let call : Call Outcome =
-    let a = c.args in
-    let g = counted_of a.state in
-    let n = mode_words a.clean a.bits a.buf.now in
-    record {
-      first = state_test (generator_formed g);
-      L = a.bits;
-      buffer = a.buf.now;
-      count = g.count;
-      words = n;
-      refused = refused g a.buf.now;
-      answer = drawn n g (mode_mask a.clean (word_at g.held.meaning) a.bits a.buf.now);
-    } in
     let fits : leb c.args.bits (length c.args.buf.now * 8) ≡ true =
     sym c.bits_fit.ensures ∙ not-false _ c.if-not-bits_fit.false-raw in
     let formed : generator_formed (counted_of c.args.state) ≡ true =
     sym c.is_formed.ensures ∙ not-false _ c.if-not-is_formed.false-raw in
-    too_many call formed fits c.reach_of-reach.ensures.words (sym c.has_left.ensures ∙ not-true _ c.if-not-has_left.true-raw)
+    too_many (call c.args.clean (counted_of c.args.state) c.args.bits c.args.buf.now) formed fits c.reach_of-reach.ensures.words (sym c.has_left.ensures ∙ not-true _ c.if-not-has_left.true-raw)
 
 pub mask_from-z-requires : goal.mask_from-z-requires
 mask_from-z-requires c =
@@ -107,19 +85,6 @@ overflow_add-result c =
 pub returns : goal.returns
 unfolding mask_tested
 returns c =
-    let call : Call Outcome =
-    let a = c.args in
-    let g = counted_of a.state in
-    let n = mode_words a.clean a.bits a.buf.now in
-    record {
-      first = state_test (generator_formed g);
-      L = a.bits;
-      buffer = a.buf.now;
-      count = g.count;
-      words = n;
-      refused = refused g a.buf.now;
-      answer = drawn n g (mode_mask a.clean (word_at g.held.meaning) a.bits a.buf.now);
-    } in
     let fits : leb c.args.bits (length c.args.buf.now * 8) ≡ true =
     sym c.bits_fit.ensures ∙ not-false _ c.if-not-bits_fit.false-raw in
     let left : leb (c.args.state.count + c.reach_of-reach.result.drawn) limit ≡ true =
@@ -131,5 +96,5 @@ returns c =
     let m = c.mask_from-z.ensures in
     let state = m.state refl ∙ ap (λ (n : ℕ). moved n (held_of a.state.z)) reaches.words in
     let masked = m.bytes ∙ mode-mask a.clean _ a.bits a.buf.now reaches.end in
-    done call formed fits reaches.words left
+    done (call c.args.clean (counted_of c.args.state) c.args.bits c.args.buf.now) formed fits reaches.words left
     (λ i. record { number = accepted; count = reaches.words i; state = record { held = state i; count = a.state.count + reaches.words i }; buffer = masked i })

@@ -23,36 +23,8 @@ turn-t-requires c =
     let pre = c.requires in
     record { high = pre.high; low = pre.low; laid = inv.3.laid; halves = inv.3.low; place_fits = omega arith }
 
-pub overflow_mul-i : goal.overflow_mul-i
-overflow_mul-i c =
-    omega arith
-
-pub overflow_add-e : goal.overflow_add-e
-overflow_add-e c =
-    omega arith
-
-pub slice_bounds-xor_word-count : goal.slice_bounds-xor_word-count
-slice_bounds-xor_word-count c =
-    omega arith
-
-pub slice_bounds-xor_word-start : goal.slice_bounds-xor_word-start
-slice_bounds-xor_word-start c =
-    omega arith
-
-pub slice_bounds-xor_word-end : goal.slice_bounds-xor_word-end
-slice_bounds-xor_word-end c =
-    omega arith
-
 pub xor_word-requires : goal.xor_word-requires
 xor_word-requires c = simp (length-take, length-drop) (omega arith)
-
-pub overflow_step-j : goal.overflow_step-j
-overflow_step-j c =
-    omega arith
-
-pub loop-j-smaller : goal.loop-j-smaller
-loop-j-smaller c =
-    omega arith
 
 pub loop-j-preserved : goal.loop-j-preserved
 loop-j-preserved c =
@@ -76,18 +48,6 @@ pub rest-requires : goal.rest-requires
 rest-requires c =
     let laid = c.loop-j.invariant.3.laid in
     record { room = (laid.long, laid.wide); place_fits = omega arith }
-
-pub shape_of-run : goal.shape_of-run
-shape_of-run c =
-    omega arith
-
-pub shape_of-pairs : goal.shape_of-pairs
-shape_of-pairs c =
-    omega arith
-
-pub shape_of-part : goal.shape_of-part
-shape_of-part c =
-    omega arith
 
 pub returns : goal.returns
 returns c =

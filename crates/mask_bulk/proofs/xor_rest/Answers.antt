@@ -19,26 +19,6 @@ pub loop-j-init : goal.loop-j-init
 loop-j-init c =
     (omega arith, refl, refl)
 
-pub byte_of-k-requires : goal.byte_of-k-requires
-byte_of-k-requires c =
-    omega arith
-
-pub bounds-part-j : goal.bounds-part-j
-bounds-part-j c =
-    omega arith
-
-pub bounds-part-j-in-loop-j : goal.bounds-part-j-in-loop-j
-bounds-part-j-in-loop-j c =
-    omega arith
-
-pub overflow_add-j : goal.overflow_add-j
-overflow_add-j c =
-    omega arith
-
-pub loop-j-smaller : goal.loop-j-smaller
-loop-j-smaller c =
-    omega arith
-
 pub loop-j-preserved : goal.loop-j-preserved
 loop-j-preserved c =
     let l = c.loop-j in (
@@ -46,10 +26,6 @@ loop-j-preserved c =
       from-store _ _ _ (omega arith) (byte-masked _ l.j (get_or l.part l.j 0) _ (omega arith) c.byte_of-k.ensures) ∙ l.invariant.1,
       simp length-set (omega arith),
     )
-
-pub shape_of-part : goal.shape_of-part
-shape_of-part c =
-    omega arith
 
 pub returns : goal.returns
 returns c = sym (from_end _ _ _ (omega arith)) ∙ c.loop-j.invariant.1 ∙ from-start _ _

@@ -13,33 +13,35 @@ use Rattle.mac_registers.specs.Stored.{stored_of}
 use Rattle.mac_registers.specs.Inner.{Holds}
 use Rattle.standard.specs.States.{formed}
 use Rattle.mac_registers.proofs.Packed.{Typed, formed-held}
+use Rattle.mac_registers.specs.declared.TagState.{TagState}
 use Rattle.mac_registers.proofs.forms.is_formed.Goals as goal
+
+-- an answer that is the definition's, and what it then says of the words that the struct's types keep below 2^64
+answer : (s : TagState) → length s.g.s ≡ 16 → length s.key ≡ 4 → length s.tag ≡ 2 → length s.rem ≡ 16
+    → ((i : ℕ) → Fits w64 (s.key ⟨ i ⟩)) → ((i : ℕ) → Fits w64 (s.tag ⟨ i ⟩))
+    → (r : Bool) → r ≡ formed (stored_of s) → (r ≡ formed (stored_of s)) × (r ≡ true → Holds (stored_of s))
+answer s places keys tags rems key_fits tag_fits r e = (e, λ t. formed-held (stored_of s) typed (sym e ∙ t))
+  where
+    typed : Typed (stored_of s)
+    typed =
+        record {
+          cells = length_from s.g.start s.g.s ∙ places;
+          keys = keys;
+          tags = tags;
+          rems = rems;
+          key-small = λ i. (key_fits i).fits;
+          tag_small = λ i. (tag_fits i).fits;
+        }
 
 pub returns-then-not-is_well_formed : goal.returns-then-not-is_well_formed
 unfolding formed
 returns-then-not-is_well_formed c =
-    let key_fits : (i : ℕ) → Fits w64 (c.args.s.key ⟨ i ⟩) =
-    λ i. search rules in
-    let tag_fits : (i : ℕ) → Fits w64 (c.args.s.tag ⟨ i ⟩) =
-    λ i. search rules in
-    let lengths : (length c.args.s.g.s ≡ 16) × (length c.args.s.key ≡ 4) × (length c.args.s.tag ≡ 2) × (length c.args.s.rem ≡ 16) =
-    (search rules, search rules, search rules, search rules) in
-    let answer : (r : Bool) → r ≡ formed (stored_of c.args.s) → (r ≡ formed (stored_of c.args.s)) × (r ≡ true → Holds (stored_of c.args.s)) =
-    λ r e. let typed : Typed (stored_of c.args.s) = record { cells = length_from c.args.s.g.start c.args.s.g.s ∙ (lengths).0; keys = (lengths).1; tags = (lengths).2; rems = (lengths).3; key-small = λ i. (key_fits i).fits; tag_small = λ i. (tag_fits i).fits } in (e, λ t. formed-held (stored_of c.args.s) typed (sym e ∙ t)) in
-    answer false (rw (sym c.is_well_formed.ensures ∙ not-true c.is_well_formed.result c.if-not-is_well_formed.true-raw) refl)
+    answer c.args.s (search rules) (search rules) (search rules) (search rules) (λ i. search rules) (λ i. search rules) false (rw (sym c.is_well_formed.ensures ∙ not-true c.is_well_formed.result c.if-not-is_well_formed.true-raw) refl)
 
 pub returns-then-not-is_width : goal.returns-then-not-is_width
 unfolding formed
 returns-then-not-is_width c =
-    let key_fits : (i : ℕ) → Fits w64 (c.args.s.key ⟨ i ⟩) =
-    λ i. search rules in
-    let tag_fits : (i : ℕ) → Fits w64 (c.args.s.tag ⟨ i ⟩) =
-    λ i. search rules in
-    let lengths : (length c.args.s.g.s ≡ 16) × (length c.args.s.key ≡ 4) × (length c.args.s.tag ≡ 2) × (length c.args.s.rem ≡ 16) =
-    (search rules, search rules, search rules, search rules) in
-    let answer : (r : Bool) → r ≡ formed (stored_of c.args.s) → (r ≡ formed (stored_of c.args.s)) × (r ≡ true → Holds (stored_of c.args.s)) =
-    λ r e. let typed : Typed (stored_of c.args.s) = record { cells = length_from c.args.s.g.start c.args.s.g.s ∙ (lengths).0; keys = (lengths).1; tags = (lengths).2; rems = (lengths).3; key-small = λ i. (key_fits i).fits; tag_small = λ i. (tag_fits i).fits } in (e, λ t. formed-held (stored_of c.args.s) typed (sym e ∙ t)) in
-    answer false
+    answer c.args.s (search rules) (search rules) (search rules) (search rules) (λ i. search rules) (λ i. search rules) false
     (rw (
       sym c.is_well_formed.ensures ∙ not-false c.is_well_formed.result c.if-not-is_well_formed.false-raw,
       sym c.is_width.ensures ∙ not-true c.is_width.result c.if-not-is_width.true-raw,
@@ -48,15 +50,7 @@ returns-then-not-is_width c =
 pub returns-then-not-unused_zero : goal.returns-then-not-unused_zero
 unfolding formed
 returns-then-not-unused_zero c =
-    let key_fits : (i : ℕ) → Fits w64 (c.args.s.key ⟨ i ⟩) =
-    λ i. search rules in
-    let tag_fits : (i : ℕ) → Fits w64 (c.args.s.tag ⟨ i ⟩) =
-    λ i. search rules in
-    let lengths : (length c.args.s.g.s ≡ 16) × (length c.args.s.key ≡ 4) × (length c.args.s.tag ≡ 2) × (length c.args.s.rem ≡ 16) =
-    (search rules, search rules, search rules, search rules) in
-    let answer : (r : Bool) → r ≡ formed (stored_of c.args.s) → (r ≡ formed (stored_of c.args.s)) × (r ≡ true → Holds (stored_of c.args.s)) =
-    λ r e. let typed : Typed (stored_of c.args.s) = record { cells = length_from c.args.s.g.start c.args.s.g.s ∙ (lengths).0; keys = (lengths).1; tags = (lengths).2; rems = (lengths).3; key-small = λ i. (key_fits i).fits; tag_small = λ i. (tag_fits i).fits } in (e, λ t. formed-held (stored_of c.args.s) typed (sym e ∙ t)) in
-    answer false
+    answer c.args.s (search rules) (search rules) (search rules) (search rules) (λ i. search rules) (λ i. search rules) false
     (rw (
       sym c.is_well_formed.ensures ∙ not-false c.is_well_formed.result c.if-not-is_well_formed.false-raw,
       sym c.is_width.ensures ∙ not-false c.is_width.result c.if-not-is_width.false-raw,
@@ -66,15 +60,7 @@ returns-then-not-unused_zero c =
 pub returns-then-width-cnt : goal.returns-then-width-cnt
 unfolding formed
 returns-then-width-cnt c =
-    let key_fits : (i : ℕ) → Fits w64 (c.args.s.key ⟨ i ⟩) =
-    λ i. search rules in
-    let tag_fits : (i : ℕ) → Fits w64 (c.args.s.tag ⟨ i ⟩) =
-    λ i. search rules in
-    let lengths : (length c.args.s.g.s ≡ 16) × (length c.args.s.key ≡ 4) × (length c.args.s.tag ≡ 2) × (length c.args.s.rem ≡ 16) =
-    (search rules, search rules, search rules, search rules) in
-    let answer : (r : Bool) → r ≡ formed (stored_of c.args.s) → (r ≡ formed (stored_of c.args.s)) × (r ≡ true → Holds (stored_of c.args.s)) =
-    λ r e. let typed : Typed (stored_of c.args.s) = record { cells = length_from c.args.s.g.start c.args.s.g.s ∙ (lengths).0; keys = (lengths).1; tags = (lengths).2; rems = (lengths).3; key-small = λ i. (key_fits i).fits; tag_small = λ i. (tag_fits i).fits } in (e, λ t. formed-held (stored_of c.args.s) typed (sym e ∙ t)) in
-    answer false
+    answer c.args.s (search rules) (search rules) (search rules) (search rules) (λ i. search rules) (λ i. search rules) false
     (rw (
       sym c.is_well_formed.ensures ∙ not-false c.is_well_formed.result c.if-not-is_well_formed.false-raw,
       sym c.is_width.ensures ∙ not-false c.is_width.result c.if-not-is_width.false-raw,
@@ -85,15 +71,7 @@ returns-then-width-cnt c =
 pub returns : goal.returns
 unfolding formed
 returns c =
-    let key_fits : (i : ℕ) → Fits w64 (c.args.s.key ⟨ i ⟩) =
-    λ i. search rules in
-    let tag_fits : (i : ℕ) → Fits w64 (c.args.s.tag ⟨ i ⟩) =
-    λ i. search rules in
-    let lengths : (length c.args.s.g.s ≡ 16) × (length c.args.s.key ≡ 4) × (length c.args.s.tag ≡ 2) × (length c.args.s.rem ≡ 16) =
-    (search rules, search rules, search rules, search rules) in
-    let answer : (r : Bool) → r ≡ formed (stored_of c.args.s) → (r ≡ formed (stored_of c.args.s)) × (r ≡ true → Holds (stored_of c.args.s)) =
-    λ r e. let typed : Typed (stored_of c.args.s) = record { cells = length_from c.args.s.g.start c.args.s.g.s ∙ (lengths).0; keys = (lengths).1; tags = (lengths).2; rems = (lengths).3; key-small = λ i. (key_fits i).fits; tag_small = λ i. (tag_fits i).fits } in (e, λ t. formed-held (stored_of c.args.s) typed (sym e ∙ t)) in
-    answer c.zero_from.result
+    answer c.args.s (search rules) (search rules) (search rules) (search rules) (λ i. search rules) (λ i. search rules) c.zero_from.result
     (c.zero_from.ensures
     ∙ sym (rw (
       sym c.is_well_formed.ensures ∙ not-false c.is_well_formed.result c.if-not-is_well_formed.false-raw,

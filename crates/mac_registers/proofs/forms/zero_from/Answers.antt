@@ -10,18 +10,9 @@ use Rattle.mac_registers.proofs.forms.zero_from.Goals as goal
 pub loop-i-init : goal.loop-i-init
 loop-i-init c = (search rules, refl)
 
-pub bounds-rem-i : goal.bounds-rem-i
-bounds-rem-i c = omega arith
-
 pub returns-then-rem-i-ne0 : goal.returns-then-rem-i-ne0
 returns-then-rem-i-ne0 c =
     sym (c.loop-i.invariant.1 ∙ zero-not c.args.rem c.loop-i.i (omega arith) c.if-rem-i-ne0.true)
-
-pub overflow_add-i : goal.overflow_add-i
-overflow_add-i c = omega arith
-
-pub loop-i-smaller : goal.loop-i-smaller
-loop-i-smaller c = omega arith
 
 pub loop-i-preserved : goal.loop-i-preserved
 loop-i-preserved c =

@@ -23,20 +23,20 @@ pub overflow_mul-e : goal.overflow_mul-e
 overflow_mul-e c =
     let held : Holds (stored_at c.update-e.new.run c.update-e.result) =
     end-held c.requires.opened.holds.good c.args.tail.now c.args.l _ c.update-e.ensures.stored in
-    omega (arith, cnt-most _ (held))
+    omega (arith, cnt-most _ held)
 
 pub overflow_add-e : goal.overflow_add-e
 overflow_add-e c =
     let held : Holds (stored_at c.update-e.new.run c.update-e.result) =
     end-held c.requires.opened.holds.good c.args.tail.now c.args.l _ c.update-e.ensures.stored in
-    omega (arith, cnt-most _ (held))
+    omega (arith, cnt-most _ held)
 
 pub extra-word-requires : goal.extra-word-requires
 extra-word-requires c =
     let held : Holds (stored_at c.update-e.new.run c.update-e.result) =
     end-held c.requires.opened.holds.good c.args.tail.now c.args.l _ c.update-e.ensures.stored in
     let t = c.last_tag-tag in
-    record { high = c.requires.high; low = c.requires.low; opened = record { rest = c.update-e.ensures.rest; holds = held }; width_is = width_four c.requires.opened.holds.good c.args.tail.now c.args.l _ c.update-e.ensures.stored c.requires.width_is _ (t.ensures c.update-e.new.run (held)) }
+    record { high = c.requires.high; low = c.requires.low; opened = record { rest = c.update-e.ensures.rest; holds = held }; width_is = width_four c.requires.opened.holds.good c.args.tail.now c.args.l _ c.update-e.ensures.stored c.requires.width_is _ (t.ensures c.update-e.new.run held) }
 
 pub overflow_cast-result : goal.overflow_cast-result
 overflow_cast-result c =
@@ -44,7 +44,7 @@ overflow_cast-result c =
     end-held c.requires.opened.holds.good c.args.tail.now c.args.l _ c.update-e.ensures.stored in
     record {
       fits = tag_fits c.requires.opened.holds.good c.args.tail.now c.args.l _ c.update-e.ensures.stored c.requires.width_is
-          _ (c.last_tag-tag.ensures c.update-e.new.run (held));
+          _ (c.last_tag-tag.ensures c.update-e.new.run held);
     }
 
 pub returns : goal.returns
@@ -52,4 +52,4 @@ returns c =
     let held : Holds (stored_at c.update-e.new.run c.update-e.result) =
     end-held c.requires.opened.holds.good c.args.tail.now c.args.l _ c.update-e.ensures.stored in
     closes-128 c.requires.opened.holds.good c.args.tail.now c.args.l _ c.update-e.ensures.stored c.requires.width_is
-    _ (c.last_tag-tag.ensures c.update-e.new.run (held)) _ c.extra-word.ensures
+    _ (c.last_tag-tag.ensures c.update-e.new.run held) _ c.extra-word.ensures

@@ -24,4 +24,4 @@ returns c =
     let held : Holds (stored_at c.update-e.new.run c.update-e.result) =
     end-held c.requires.opened.holds.good c.args.tail.now c.args.l _ c.update-e.ensures.stored in
     let run = c.update-e.new.run in
-    closes-256 c.requires.opened.holds.good c.args.tail.now c.args.l _ c.update-e.ensures.stored _ (c.last_tag.ensures run (held))
+    closes-256 c.requires.opened.holds.good c.args.tail.now c.args.l _ c.update-e.ensures.stored _ (c.last_tag.ensures run held)

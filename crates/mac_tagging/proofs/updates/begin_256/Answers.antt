@@ -31,8 +31,8 @@ slice_bounds-words_on-end c =
     let most : c.args.width / 4 * 3 ≤ 12 =
     omega (arith, width-most c.requires.width_fits) in
     let room : length (take (c.args.width / 4 * 3) zeros) ≡ c.args.width / 4 * 3 =
-    length-take-le _ zeros (most) in
-    sym (room)
+    length-take-le _ zeros most in
+    sym room
 
 pub words_on-next-requires : goal.words_on-next-requires
 words_on-next-requires c =
@@ -44,20 +44,20 @@ slice_bounds-fresh_at-end c =
     let most : c.args.width / 4 * 3 ≤ 12 =
     omega (arith, width-most c.requires.width_fits) in
     let room : length (take (c.args.width / 4 * 3) zeros) ≡ c.args.width / 4 * 3 =
-    length-take-le _ zeros (most) in
+    length-take-le _ zeros most in
     let long : length (c.words_on-next.new.out ++ drop (c.args.width / 4 * 3) zeros) ≡ 12 =
     let n : ℕ = c.args.width / 4 * 3 in
     let ys = c.words_on-next.new.out in
     let drawn : length ys ≡ n = ap length c.words_on-next.ensures.words ∙ length-listed _ 0 _ ∙ room in
     omega (arith, length-append ys (drop n zeros), drawn, length-drop n zeros, most) in
-    sym (long)
+    sym long
 
 pub fresh_at-tag-requires : goal.fresh_at-tag-requires
 fresh_at-tag-requires c =
     let most : c.args.width / 4 * 3 ≤ 12 =
     omega (arith, width-most c.requires.width_fits) in
     let room : length (take (c.args.width / 4 * 3) zeros) ≡ c.args.width / 4 * 3 =
-    length-take-le _ zeros (most) in
+    length-take-le _ zeros most in
     let long : length (c.words_on-next.new.out ++ drop (c.args.width / 4 * 3) zeros) ≡ 12 =
     let n : ℕ = c.args.width / 4 * 3 in
     let ys = c.words_on-next.new.out in
@@ -70,20 +70,20 @@ slice_bounds-key_at-end c =
     let most : c.args.width / 4 * 3 ≤ 12 =
     omega (arith, width-most c.requires.width_fits) in
     let room : length (take (c.args.width / 4 * 3) zeros) ≡ c.args.width / 4 * 3 =
-    length-take-le _ zeros (most) in
+    length-take-le _ zeros most in
     let long : length (c.words_on-next.new.out ++ drop (c.args.width / 4 * 3) zeros) ≡ 12 =
     let n : ℕ = c.args.width / 4 * 3 in
     let ys = c.words_on-next.new.out in
     let drawn : length ys ≡ n = ap length c.words_on-next.ensures.words ∙ length-listed _ 0 _ ∙ room in
     omega (arith, length-append ys (drop n zeros), drawn, length-drop n zeros, most) in
-    sym (long)
+    sym long
 
 pub key_at-key-requires : goal.key_at-key-requires
 key_at-key-requires c =
     let most : c.args.width / 4 * 3 ≤ 12 =
     omega (arith, width-most c.requires.width_fits) in
     let room : length (take (c.args.width / 4 * 3) zeros) ≡ c.args.width / 4 * 3 =
-    length-take-le _ zeros (most) in
+    length-take-le _ zeros most in
     let long : length (c.words_on-next.new.out ++ drop (c.args.width / 4 * 3) zeros) ≡ 12 =
     let n : ℕ = c.args.width / 4 * 3 in
     let ys = c.words_on-next.new.out in
@@ -96,15 +96,15 @@ returns c =
     let most : c.args.width / 4 * 3 ≤ 12 =
     omega (arith, width-most c.requires.width_fits) in
     let room : length (take (c.args.width / 4 * 3) zeros) ≡ c.args.width / 4 * 3 =
-    length-take-le _ zeros (most) in
+    length-take-le _ zeros most in
     let drew = c.words_on-next.ensures in
     let n : ℕ = c.args.width / 4 * 3 in
     let σ : Held = held_on c.args.run.now c.args.h c.args.start in
     record {
       rest = at_rest drew.standing;
       stored =
-          begun-256 σ _ _ _ c.requires.width_fits _ (moved-is n σ c.requires.start_fits (drew.standing.state ∙ ap (λ (k : ℕ). after k σ.meaning) (room)) c.index_after.ensures)
-          (filled (word_at σ.meaning) n c.words_on-next.new.out zeros (drop n zeros) drew.words (most))
+          begun-256 σ _ _ _ c.requires.width_fits _ (moved-is n σ c.requires.start_fits (drew.standing.state ∙ ap (λ (k : ℕ). after k σ.meaning) room) c.index_after.ensures)
+          (filled (word_at σ.meaning) n c.words_on-next.new.out zeros (drop n zeros) drew.words most)
           c.fresh_at-tag.ensures
           c.key_at-key.ensures;
     }

@@ -31,7 +31,7 @@ slice_bounds-whole-end c =
     search rules in
     let room : c.args.o.width ≤ length c.behind-full.result =
     omega (arith, places, width-most c.requires.opened.holds.good.a-width) in
-    sym (length-take-le _ _ (room))
+    sym (length-take-le _ _ room)
 
 pub whole-r-requires : goal.whole-r-requires
 whole-r-requires c =

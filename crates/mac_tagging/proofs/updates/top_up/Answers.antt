@@ -25,7 +25,7 @@ pub slice_bounds-complete-end : goal.slice_bounds-complete-end
 slice_bounds-complete-end c =
     let lacking : length (take (c.args.o.width - c.args.o.cnt) c.args.message.now) ≡ c.args.o.width - c.args.o.cnt =
     length-take-le _ _ (omega (arith, c.requires.fills)) in
-    sym (lacking)
+    sym lacking
 
 pub complete-next-requires : goal.complete-next-requires
 complete-next-requires c =

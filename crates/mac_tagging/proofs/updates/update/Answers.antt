@@ -52,7 +52,7 @@ wait-requires-2 c =
     let b = c.whole-fed.ensures.1 in
     part-on c.requires.opened.holds.good c.args.message.now topped.result.at c.whole-fed.result.at (omega (arith, b.at-is)) topped.ensures.stands.stored b.held in
     let same_width : c.whole-fed.result.o.width ≡ c.args.o.width =
-    ap (λ (x : Stored). x.width) (so_far) in
+    ap (λ (x : Stored). x.width) so_far in
     let first_width : c.top_up-topped.result.o.width ≡ c.args.o.width =
     ap (λ (x : Stored). x.width) c.top_up-topped.ensures.stands.stored in
     let m : List ℕ = c.args.message.now in
@@ -60,7 +60,7 @@ wait-requires-2 c =
     let b = c.whole-fed.ensures.1 in
     let left : length (take (length m - at) (drop at m)) ≡ length m - at = length-take-le (length m - at) (drop at m) (omega (arith, length-drop at m)) in (
       omega (arith, b.none, left, b.all, b.within, same_width, first_width),
-      subst Width (sym (same_width)) c.requires.opened.holds.good.a-width,
+      subst Width (sym same_width) c.requires.opened.holds.good.a-width,
     )
 
 pub returns : goal.returns
@@ -80,6 +80,6 @@ returns c =
     record {
       rest = subst (λ (h : Halves). AtRest run c.whole-fed.new.pairs h) (sym waits.same) fed.0;
       stored =
-          part-on good m c.whole-fed.result.at (length m) fed.1.within (so_far) (waits.stored run (held-as (so_far) (good-updated _ good)))
+          part-on good m c.whole-fed.result.at (length m) fed.1.within so_far (waits.stored run (held-as so_far (good-updated _ good)))
           ∙ ap (λ (l : List ℕ). packed w (updated (w * 8) (tagging_of (stored_at a.run.now a.o)) l)) (take_all (length m) m (omega arith));
     }
