@@ -45,17 +45,28 @@ module _ (ys : List declared.Link) (i : ℕ) where
   put : StepOutcome → Guarded
   put s = record { number = s.number; table = set table i s.link }
 
-  pub stepped-is : (COUNT : ℕ) (number : ℕ) (y : declared.Link) → i < length ys
-      → record { number = number; link = link_of y } ≡ step_outcome (link_of (get_or ys i fresh_link)) COUNT
-      → record { number = number; table = table_of (set ys i y) } ≡ accept_outcome table i COUNT
+  stepped : (COUNT : ℕ) (s : StepOutcome) → i < length ys → s ≡ step_outcome (link_of (get_or ys i fresh_link)) COUNT → put s ≡ accept_outcome table i COUNT
   unfolding accept_outcome step_outcome put
-  stepped-is COUNT number y within told =
-      (λ k. record { number = number; table = set-table ys i y k })
-      ∙ ap put (told ∙ ap (λ (l : Link). step_outcome l COUNT) (sym taken))
+  stepped COUNT s within told =
+      ap put (told ∙ ap (λ (l : Link). step_outcome l COUNT) (sym taken))
       ∙ tested-map put (count_tests (link_at table i) COUNT) (λ n. record { number = n; link = link_at table i })
       (record { number = accepted; link = accepting (link_at table i) COUNT })
       ∙ (λ k. tested (count_tests (link_at table i) COUNT) (λ n. record { number = n; table = set-get_or table i fresh k }) (accepted_call table i (accepting (link_at table i) COUNT)))
       ∙ sym (found (count_tests (link_at table i) COUNT) (refused_call table) (accepted_call table i (accepting (link_at table i) COUNT)) within)
+
+  pub accept-stepped : (COUNT : ℕ) (y : declared.Link) → i < length ys
+      → record { number = accepted; link = link_of y } ≡ step_outcome (link_of (get_or ys i fresh_link)) COUNT
+      → record { number = accepted; table = table_of (set ys i y) } ≡ accept_outcome table i COUNT
+  unfolding put
+  accept-stepped COUNT y within told = (λ k. record { number = accepted; table = set-table ys i y k }) ∙ stepped COUNT _ within told
+
+  -- a refused step leaves the table as it was
+  pub accept-refused : (COUNT number : ℕ) → i < length ys
+      → record { number = number; link = link_of (get_or ys i fresh_link) } ≡ step_outcome (link_of (get_or ys i fresh_link)) COUNT
+      → record { number = number; table = table } ≡ accept_outcome table i COUNT
+  unfolding put
+  accept-refused COUNT number within told =
+      (λ k. record { number = number; table = (sym (set-get_or table i fresh) ∙ ap (set table i) taken) k }) ∙ stepped COUNT _ within told
 
   pub accept-missing : (COUNT : ℕ) → length ys ≤ i → record { number = bad_link; table = table } ≡ accept_outcome table i COUNT
   unfolding accept_outcome

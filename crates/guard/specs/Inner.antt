@@ -1,17 +1,20 @@
 -- What the inner functions promise: a link by value, without its table.
-use Rattle.std.specs.Prelude.{ℕ}
-use Rattle.guard.specs.Outcome.{accept_number, count_tests, link_of}
-use Rattle.guard.specs.declared.Stepped.{Stepped}
+use Rattle.std.specs.Prelude.{ℕ, Result, Ok, Err}
+use Rattle.guard.specs.Outcome.{count_tests, link_of}
+use Rattle.guard.specs.declared.Link as declared
+use Rattle.refusals.specs.declared.Refusal.{Refusal}
+use Rattle.refusals.specs.Numbers.{refusal_number}
 use Rattle.standard.specs.Guard.{Link, accepting, knows, link_over}
 use Rattle.standard.specs.Refusals.{accepted, tested}
 
--- a COUNT held against one link: the number, and the link after it
+-- a COUNT held against one link: the number, and the link after it, which is the one before where the COUNT was refused
 pub record StepOutcome : Type 0 where
   pub number : ℕ
   pub link : Link
 
-abbrev pub step_told : Stepped → StepOutcome
-step_told r = record { number = accept_number r.answer; link = link_of r.link }
+abbrev pub step_told : Result declared.Link Refusal → Link → StepOutcome
+step_told (Ok after) before = record { number = accepted; link = link_of after }
+step_told (Err refusal) before = record { number = refusal_number refusal; link = before }
 
 unfoldable pub step_outcome : Link → ℕ → StepOutcome
 step_outcome link COUNT =

@@ -1,12 +1,8 @@
 -- What the calls of a guard answer: the standard's tests in the request's order (2026-03: 13, 12, 11), then the table with one link set.
 use Rattle.std.specs.Prelude.{get_or, set, List, [], ◌∷◌, map, ℕ}
-use Rattle.guard.specs.declared.AcceptAnswer.{AcceptAnswer}
-use Rattle.guard.specs.declared.AcceptAnswer.TheVariants as accept-answer
 use Rattle.guard.specs.declared.Link as declared
-use Rattle.guard.specs.declared.RekeyAnswer.{RekeyAnswer}
-use Rattle.guard.specs.declared.RekeyAnswer.TheVariants as rekey-answer
 use Rattle.standard.specs.Guard.{Link, accepting, fresh, knows}
-use Rattle.standard.specs.Refusals.{Test, accepted, age_test, bad_age, bad_link, bad_reuse, link_test, reuse_test, tested}
+use Rattle.standard.specs.Refusals.{Test, accepted, age_test, link_test, reuse_test, tested}
 
 -- the struct of the code, and a table of them, read as the standard's links
 abbrev pub link_of : declared.Link → Link
@@ -15,18 +11,7 @@ link_of l = record { highest = l.highest; accepted = l.accepted }
 abbrev pub table_of : List declared.Link → List Link
 table_of links = map link_of links
 
--- the number of each case of the answers
-abbrev pub accept_number : AcceptAnswer → ℕ
-accept_number accept-answer.Accepted = accepted
-accept_number accept-answer.BadReuse = bad_reuse
-accept_number accept-answer.BadAge = bad_age
-accept_number accept-answer.BadLink = bad_link
-
-abbrev pub rekey_number : RekeyAnswer → ℕ
-rekey_number rekey-answer.Rekeyed = accepted
-rekey_number rekey-answer.BadLink = bad_link
-
--- all that a call gives: that number and the table
+-- all that a call gives: its number and the table
 pub record Guarded : Type 0 where
   pub number : ℕ
   pub table : List Link

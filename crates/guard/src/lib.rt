@@ -3,37 +3,17 @@
 
 ghost use Rattle.std.specs.Prelude.{◌≡◌, ◌*◌, ◌%◌, ◌^◌};
 ghost use Rattle.guard.specs.Inner.{standing_bits, step_outcome, step_told};
-ghost use Rattle.guard.specs.Outcome.{accept_number, accept_outcome, link_of, rekey_number, rekey_outcome, table_of};
+ghost use Rattle.guard.specs.Outcome.{accept_outcome, link_of, rekey_outcome, table_of};
+ghost use Rattle.refusals.specs.Numbers.{answer_number};
+
+use refusals::Refusal;
 
 // A link: its highest COUNT, and which of the 64 counts ending there were accepted, bit i for COUNT highest - i. Zeros are a fresh one.
 #[repr(C)]
-#[derive(Clone, Copy)]
+#[derive(Clone, Copy, Debug, PartialEq, Eq, Default)]
 pub struct Link {
     pub highest: u32,
     pub accepted: u64,
-}
-
-// The answer to a COUNT: accepted, or why it was refused.
-#[derive(Clone, Copy)]
-pub enum AcceptAnswer {
-    Accepted,
-    BadReuse,
-    BadAge,
-    BadLink,
-}
-
-// The answer to a re-keying: done, or why it was refused.
-#[derive(Clone, Copy)]
-pub enum RekeyAnswer {
-    Rekeyed,
-    BadLink,
-}
-
-// A COUNT held against one link: the answer, and the link after it, as it came where it was refused.
-#[derive(Clone, Copy)]
-struct Stepped {
-    link: Link,
-    answer: AcceptAnswer,
 }
 
 // The bits that stand for a COUNT: one past bit `highest` would stand for a number below 0.
@@ -59,83 +39,69 @@ fn raised(bits: u64, up: u32) -> u64
     0
 }
 
-// A COUNT above the highest moves the window; one inside it is set there, once.
+// The link after a COUNT: one above the highest moves the window; one inside it is set there, once.
 #[tactic(auto, using(crate::proofs::Stepping::old_is))]
-fn step(l: Link, count: u32) -> Stepped
-    ensures { step_told result ≡ step_outcome (link_of l) count }
+fn step(l: Link, count: u32) -> Result<Link, Refusal>
+    ensures { step_told result (link_of l) ≡ step_outcome (link_of l) count }
 {
     let highest = l.highest;
     let bits = standing(l);
     if highest < count {
         let moved = raised(bits, count - highest);
-        return Stepped {
-            link: Link {
-                highest: count,
-                accepted: moved + 1,
-            },
-            answer: AcceptAnswer::Accepted,
-        };
+        return Ok(Link {
+            highest: count,
+            accepted: moved + 1,
+        });
     }
     let back = highest - count;
     if 63 < back {
-        return Stepped {
-            link: l,
-            answer: AcceptAnswer::BadAge,
-        };
+        return Err(Refusal::BadAge);
     }
     if (bits >> back) % 2 == 1 {
-        return Stepped {
-            link: l,
-            answer: AcceptAnswer::BadReuse,
-        };
+        return Err(Refusal::BadReuse);
     }
     let bit: u64 = 1 << back;
-    Stepped {
-        link: Link {
-            highest,
-            accepted: bits + bit,
-        },
-        answer: AcceptAnswer::Accepted,
-    }
+    Ok(Link {
+        highest,
+        accepted: bits + bit,
+    })
 }
 
-// Whether a COUNT may pass on the link at a place of the table, and if so, that it has.
-pub fn accept(links: &mut [Link], at: usize, count: u32) -> AcceptAnswer
-    ensures { record { number = accept_number result; table = table_of links.new } ≡ accept_outcome (table_of links.old) at count }
+// Whether a COUNT may pass on the link at a place of the table, and if so, that it has; or BadLink, BadAge, BadReuse, in this order.
+pub fn accept(links: &mut [Link], at: usize, count: u32) -> Result<(), Refusal>
+    ensures { record { number = answer_number result; table = table_of links.new } ≡ accept_outcome (table_of links.old) at count }
 {
     if links.len() <= at {
-        return AcceptAnswer::BadLink;
+        return Err(Refusal::BadLink);
     }
-    let l = links[at];
-    let s = step(l, count);
-    links[at] = s.link;
-    s.answer
+    links[at] = step(links[at], count)?;
+    Ok(())
 }
 
-// The link at a place of the table is fresh again, for a new key.
-pub fn rekey(links: &mut [Link], at: usize) -> RekeyAnswer
-    ensures { record { number = rekey_number result; table = table_of links.new } ≡ rekey_outcome (table_of links.old) at }
+// The link at a place of the table is fresh again, for a new key; or BadLink.
+pub fn rekey(links: &mut [Link], at: usize) -> Result<(), Refusal>
+    ensures { record { number = answer_number result; table = table_of links.new } ≡ rekey_outcome (table_of links.old) at }
 {
     if links.len() <= at {
-        return RekeyAnswer::BadLink;
+        return Err(Refusal::BadLink);
     }
     links[at] = Link {
         highest: 0,
         accepted: 0,
     };
-    RekeyAnswer::Rekeyed
+    Ok(())
 }
 
 // A table of four links by value, and the answer to a COUNT.
 #[derive(Clone, Copy)]
 pub struct Four {
     pub links: [Link; 4],
-    pub answer: AcceptAnswer,
+    pub answer: Result<(), Refusal>,
 }
 
 // `accept` for a caller that has a table by value, and none to lend.
 pub fn accept_in(links: [Link; 4], at: usize, count: u32) -> Four
-    ensures { record { number = accept_number result.answer; table = table_of result.links } ≡ accept_outcome (table_of links) at count }
+    ensures { record { number = answer_number result.answer; table = table_of result.links } ≡ accept_outcome (table_of links) at count }
 {
     let mut table = links;
     let answer = accept(&mut table, at, count);

@@ -15,7 +15,9 @@ use Rattle.keystream.proofs.generate.Reads as generate
 use Rattle.keystream.proofs.zuc128.new.Reads as zuc128-new
 use Rattle.keystream.proofs.zuc256.new.Reads as zuc256-new
 use Rattle.keystream.proofs.zuc256.new_with_d.Reads as zuc256-new-with-d
-use Rattle.keystream.specs.Draws.{draw_number, draw_told, draw_word, fill_number, fill_told}
+use Rattle.keystream.specs.Draws.{draw_told, fill_told}
+use Rattle.refusals.specs.Numbers.{answer_number}
+use Rattle.std.specs.Result.{result_unwrap_or}
 use Rattle.keystream.specs.Runs.{Draws, many, one}
 use Rattle.keystream.specs.Starts.{start-EEA3, start_tag₂₅₆, start_told, start₁₂₈, start₂₅₆, strict_start-EEA3}
 
@@ -38,13 +40,13 @@ called-eea3-new-strict κs a r s p = p
 -- a run that begins with a call, by the run after it
 module _ {words : List ℕ} {g' : Counted Held} where
   pub called-generate : Says generate.Post
-      (λ κs a r s. draw_number r.answer ≡ accepted → Draws (counted_of r.state) words g' → Draws (counted_of a.0) (draw_word r.answer ∷ words) g')
-  called-generate κs a r s p ok rest = one (draw_told r) p ok rest
+      (λ κs a r s. answer_number r.answer ≡ accepted → Draws (counted_of r.state) words g' → Draws (counted_of a.0) (result_unwrap_or r.answer 0 ∷ words) g')
+  called-generate κs a r s p ok rest = one (draw_told r.answer r.state) p ok rest
 
   pub called-generate-in-place : Says in-place-post
-      (λ κs a r s. draw_number r ≡ accepted → Draws (counted_of s.0.now) words g' → Draws (counted_of a.0.now) (draw_word r ∷ words) g')
-  called-generate-in-place κs a r s p ok rest = one (draw_told (record { answer = r; state = s.0.now })) p ok rest
+      (λ κs a r s. answer_number r ≡ accepted → Draws (counted_of s.0.now) words g' → Draws (counted_of a.0.now) (result_unwrap_or r 0 ∷ words) g')
+  called-generate-in-place κs a r s p ok rest = one (draw_told r s.0.now) p ok rest
 
   pub called-fill : Says fill.Post
-      (λ κs a r s. fill_number r.answer ≡ accepted → Draws (counted_of r.state) words g' → Draws (counted_of a.0) (s.1.0.now ++ words) g')
-  called-fill κs a r s p ok rest = many a.1.0.now (fill_told r s.1.0.now) p ok rest
+      (λ κs a r s. answer_number r ≡ accepted → Draws (counted_of s.0.now) words g' → Draws (counted_of a.0.now) (s.1.0.now ++ words) g')
+  called-fill κs a r s p ok rest = many a.1.0.now (fill_told r s.0.now s.1.0.now) p ok rest

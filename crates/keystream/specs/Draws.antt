@@ -1,35 +1,23 @@
 -- What a draw and a fill answer: the standard's tests in their order, then the words.
-use Rattle.std.specs.Prelude.{List, [], ◌∷◌, ℕ}
-use Rattle.keystream.specs.declared.DrawAnswer.{DrawAnswer}
-use Rattle.keystream.specs.declared.DrawAnswer.TheVariants as draw-answer
-use Rattle.keystream.specs.declared.Drew.{Drew}
-use Rattle.keystream.specs.declared.FillAnswer.{FillAnswer}
-use Rattle.keystream.specs.declared.FillAnswer.TheVariants as fill-answer
-use Rattle.keystream.specs.declared.Filling.{Filling}
+use Rattle.std.specs.Prelude.{List, [], ◌∷◌, ℕ, Result, ⊤}
+use Rattle.refusals.specs.declared.Refusal.{Refusal}
+use Rattle.refusals.specs.Numbers.{answer_number}
+use Rattle.std.specs.Result.{result_unwrap_or}
 use Rattle.standard.specs.Generator.{word, word_at}
 use Rattle.standard.specs.Notation.{listed}
-use Rattle.standard.specs.Refusals.{accepted, bad_state, limit_test, spent, state_test, tested}
+use Rattle.standard.specs.Refusals.{accepted, limit_test, state_test, tested}
 use Rattle.standard.specs.States.{Counted, Held, drawn_on, generator_formed, words_to_draw, words_to_fill}
 use Rattle.zuc.specs.Reading.{counted_of}
+use Rattle.zuc.specs.declared.Generator as declared
 
--- a draw: the number of each case, its word, and all that a call gives
-abbrev pub draw_number : DrawAnswer → ℕ
-draw_number (draw-answer.Word w) = accepted
-draw_number draw-answer.BadState = bad_state
-draw_number draw-answer.Spent = spent
-
-abbrev pub draw_word : DrawAnswer → ℕ
-draw_word (draw-answer.Word w) = w
-draw_word draw-answer.BadState = 0
-draw_word draw-answer.Spent = 0
-
+-- all that a draw gives: its number, its word, and the state after it
 pub record DrawOutcome : Type 0 where
   pub number : ℕ
   pub word : ℕ
   pub state : Counted Held
 
-abbrev pub draw_told : Drew → DrawOutcome
-draw_told r = record { number = draw_number r.answer; word = draw_word r.answer; state = counted_of r.state }
+abbrev pub draw_told : Result ℕ Refusal → declared.Generator → DrawOutcome
+draw_told r g = record { number = answer_number r; word = result_unwrap_or r 0; state = counted_of g }
 
 -- a refusal hands back the caller's state and a zero word
 abbrev pub refused_draw : Counted Held → ℕ → DrawOutcome
@@ -41,18 +29,13 @@ draw_outcome g =
     (record { number = accepted; word = word g.held.meaning; state = drawn_on words_to_draw g })
 
 -- a buffer of words filled, one draw each
-abbrev pub fill_number : FillAnswer → ℕ
-fill_number fill-answer.Filled = accepted
-fill_number fill-answer.BadState = bad_state
-fill_number fill-answer.Spent = spent
-
 pub record FillOutcome : Type 0 where
   pub number : ℕ
   pub state : Counted Held
   pub buffer : List ℕ
 
-abbrev pub fill_told : Filling → List ℕ → FillOutcome
-fill_told r buffer = record { number = fill_number r.answer; state = counted_of r.state; buffer = buffer }
+abbrev pub fill_told : Result ⊤ Refusal → declared.Generator → List ℕ → FillOutcome
+fill_told r g buffer = record { number = answer_number r; state = counted_of g; buffer = buffer }
 
 -- a refusal leaves state and buffer untouched
 abbrev pub refused_fill : Counted Held → List ℕ → ℕ → FillOutcome

@@ -1,29 +1,19 @@
 -- What the starts answer: the standard's tests in their order, then the started state.
-use Rattle.std.specs.Prelude.{List, [], ◌∷◌, ℕ}
-use Rattle.keystream.specs.declared.Start.{Start}
-use Rattle.keystream.specs.declared.StartAnswer.{StartAnswer}
-use Rattle.keystream.specs.declared.StartAnswer.TheVariants.{Started, BadWidth, BadKey, BadIv, BadField}
+use Rattle.std.specs.Prelude.{List, [], ◌∷◌, ℕ, Result, Ok, Err}
+use Rattle.refusals.specs.declared.Refusal.{Refusal}
+use Rattle.refusals.specs.Numbers.{refusal_number}
 use Rattle.standard.specs.Confidentiality.{IV-EEA3, bytes_iv-EEA3}
 use Rattle.standard.specs.Generator.{State, started}
 use Rattle.standard.specs.Loading.{load₁₂₈, load₂₅₆, row_of}
-use Rattle.standard.specs.Refusals.{accepted, bad_field, bad_iv, bad_key, bad_width, field_test, iv_test, key_test, tested, width_test}
+use Rattle.standard.specs.Refusals.{accepted, field_test, iv_test, key_test, tested, width_test}
 use Rattle.standard.specs.States.{Counted, Held, from_start, from_zero, zeros}
 use Rattle.zuc.specs.Reading.{counted_of}
+use Rattle.zuc.specs.declared.Generator as declared
 
--- the number of each case of the answer, and all that a call gives: that number and the state
-abbrev pub start_number : StartAnswer → ℕ
-start_number Started = accepted
-start_number BadWidth = bad_width
-start_number BadKey = bad_key
-start_number BadIv = bad_iv
-start_number BadField = bad_field
-
+-- all that a start gives: its number and the state
 pub record StartOutcome : Type 0 where
   pub number : ℕ
   pub state : Counted Held
-
-abbrev pub start_told : Start → StartOutcome
-start_told r = record { number = start_number r.answer; state = counted_of r.state }
 
 -- an accepted start hands back the started state, a refused one zeros
 abbrev pub accepted_start : State → StartOutcome
@@ -31,6 +21,10 @@ accepted_start loaded = record { number = accepted; state = from_start (from_zer
 
 abbrev pub refused_start : ℕ → StartOutcome
 refused_start number = record { number = number; state = from_start zeros }
+
+abbrev pub start_told : Result declared.Generator Refusal → StartOutcome
+start_told (Ok g) = record { number = accepted; state = counted_of g }
+start_told (Err refusal) = refused_start (refusal_number refusal)
 
 unfoldable pub start₁₂₈ : List ℕ → List ℕ → StartOutcome
 start₁₂₈ key iv = tested (key_test 16 key ∷ iv_test 16 iv ∷ []) refused_start (accepted_start (load₁₂₈ key iv))

@@ -3,163 +3,82 @@
 
 ghost use Rattle.std.specs.Prelude.{◌≡◌};
 ghost use Rattle.keystream.specs.Draws.{draw_told, draw_outcome, fill_told, fill_outcome};
-ghost use Rattle.keystream.specs.Starts.{accepted_start, refused_start, start_told, start_number};
 ghost use Rattle.standard.proofs.Cells.{Cells};
+ghost use Rattle.standard.specs.Generator.{started};
+ghost use Rattle.standard.specs.States.{from_start, from_zero};
 ghost use Rattle.zuc.specs.Reading.{counted_of, loaded_of};
 
+use refusals::Refusal;
 use words::has_left;
 use zuc::boxes::{s0, s1};
-use zuc::{Generator, Loaded, Zuc, is_formed};
+use zuc::{Generator, Loaded, is_formed};
 use zuc_turn::raised;
 
 pub mod eea3;
 pub mod zuc128;
 pub mod zuc256;
 
-// A start's answer: accepted, or why it was refused.
-#[derive(Clone, Copy)]
-pub enum StartAnswer {
-    Started,
-    BadWidth,
-    BadKey,
-    BadIv,
-    BadField,
-}
-
-// A start: its answer, and the generator, of zeros where it was refused.
-#[derive(Clone, Copy)]
-pub struct Start {
-    pub answer: StartAnswer,
-    pub state: Generator,
-}
-
-// A draw's answer: the word, or why it was refused.
-#[derive(Clone, Copy)]
-pub enum DrawAnswer {
-    Word(u32),
-    BadState,
-    Spent,
-}
-
-// A draw: its answer, and the state after it, the caller's where it was refused.
+// A draw of a generator by value: its answer, and the state after it, the caller's where it was refused.
 #[derive(Clone, Copy)]
 pub struct Drew {
-    pub answer: DrawAnswer,
+    pub answer: Result<u32, Refusal>,
     pub state: Generator,
 }
 
-// The answer of a fill: done, or why it was refused.
-#[derive(Clone, Copy)]
-pub enum FillAnswer {
-    Filled,
-    BadState,
-    Spent,
-}
-
-// A fill: its answer, and the state after it, the caller's where it was refused.
-#[derive(Clone, Copy)]
-pub struct Filling {
-    pub answer: FillAnswer,
-    pub state: Generator,
-}
-
-// A refused start.
-fn refused(answer: StartAnswer) -> Start
-    ensures { start_told result ≡ refused_start (start_number answer) }
-{
-    Start {
-        answer,
-        state: Generator {
-            z: Zuc {
-                s: [0u32; 16],
-                r1: 0,
-                r2: 0,
-                start: 0,
-            },
-            count: 0,
-        },
-    }
-}
-
-// An accepted start: loaded cells, brought through start-up.
-fn started_from(loaded: Loaded) -> Start
+// Loaded cells, brought through start-up: a generator that has drawn nothing.
+fn started_from(loaded: Loaded) -> Generator
     requires { Cells loaded.s }
-    ensures { start_told result ≡ accepted_start (loaded_of loaded) }
+    ensures { counted_of result ≡ from_start (from_zero (started (loaded_of loaded))) }
 {
     let high = raised();
     let low = s1();
     let z = zuc_bulk::startup::init(&high, &low, loaded);
-    Start {
-        answer: StartAnswer::Started,
-        state: Generator { z, count: 0 },
-    }
+    Generator { z, count: 0 }
 }
 
-// The next word of the keystream.
-pub fn generate(state: Generator) -> Drew
-    ensures { draw_told result ≡ draw_outcome (counted_of state) }
+// The next word of the keystream, or BadState, Spent: then the generator stays as it came.
+#[tactic(auto, unfolding(crate::specs::Draws::draw_outcome, standard::specs::Refusals::tested))]
+pub fn generate_in_place(g: &mut Generator) -> Result<u32, Refusal>
+    ensures { draw_told result g.new ≡ draw_outcome (counted_of g.old) }
 {
-    if !is_formed(state) {
-        return Drew {
-            answer: DrawAnswer::BadState,
-            state,
-        };
+    if !is_formed(*g) {
+        return Err(Refusal::BadState);
     }
-    let count = state.count;
-    if !has_left(count, 1) {
-        return Drew {
-            answer: DrawAnswer::Spent,
-            state,
-        };
+    if !has_left(g.count, 1) {
+        return Err(Refusal::Spent);
     }
     let t0 = s0();
     let t1 = s1();
-    let drawn = zuc::draw(&t0, &t1, state.z);
-    let z = drawn.next;
-    Drew {
-        answer: DrawAnswer::Word(drawn.word),
-        state: Generator {
-            z,
-            count: count + 1,
-        },
-    }
+    let drawn = zuc::draw(&t0, &t1, g.z);
+    g.z = drawn.next;
+    g.count += 1;
+    Ok(drawn.word)
 }
 
-// The same of a generator that the caller lends: taken out, stepped by value, and written back.
-pub fn generate_in_place(g: &mut Generator) -> DrawAnswer
-    ensures { draw_told (record { answer = result; state = g.new }) ≡ draw_outcome (counted_of g.old) }
+// The same of a generator by value.
+pub fn generate(state: Generator) -> Drew
+    ensures { draw_told result.answer result.state ≡ draw_outcome (counted_of state) }
 {
-    let drew = generate(*g);
-    *g = drew.state;
-    drew.answer
+    let mut g = state;
+    let answer = generate_in_place(&mut g);
+    Drew { answer, state: g }
 }
 
-// The next words of the keystream, as many as the buffer holds.
-pub fn fill(state: Generator, buffer: &mut [u32]) -> Filling
-    ensures { fill_told result buffer.new ≡ fill_outcome (counted_of state) buffer.old }
+// The next words of the keystream, as many as the buffer holds, or BadState, Spent: then generator and buffer stay as they came.
+#[tactic(auto, unfolding(crate::specs::Draws::fill_outcome, standard::specs::Refusals::tested))]
+pub fn fill(g: &mut Generator, buffer: &mut [u32]) -> Result<(), Refusal>
+    ensures { fill_told result g.new buffer.new ≡ fill_outcome (counted_of g.old) buffer.old }
 {
-    if !is_formed(state) {
-        return Filling {
-            answer: FillAnswer::BadState,
-            state,
-        };
-    }
-    let count = state.count;
     let n = buffer.len();
-    if !has_left(count, n) {
-        return Filling {
-            answer: FillAnswer::Spent,
-            state,
-        };
+    if !is_formed(*g) {
+        return Err(Refusal::BadState);
+    }
+    if !has_left(g.count, n) {
+        return Err(Refusal::Spent);
     }
     let high = raised();
     let low = s1();
-    let z = zuc_bulk::words_into(&high, &low, state.z, buffer);
-    Filling {
-        answer: FillAnswer::Filled,
-        state: Generator {
-            z,
-            count: count + n,
-        },
-    }
+    g.z = zuc_bulk::words_into(&high, &low, g.z, buffer);
+    g.count += n;
+    Ok(())
 }

@@ -1,37 +1,23 @@
 -- What EEA3 in one call gives (request 2026-04): the standard's tests in their order, then the mask by the keystream of the loaded key and IV,
 -- with no state in between.
-use Rattle.std.specs.Prelude.{List, [], ◌∷◌, ℕ, length}
+use Rattle.std.specs.Prelude.{List, [], ◌∷◌, ℕ, Result, length}
 use Rattle.standard.specs.Confidentiality.{IV-EEA3, bytes_iv-EEA3, mask_clean, mask_crate, words_to_mask_clean, words_to_mask_crate}
 use Rattle.standard.specs.Generator.{keystream}
 use Rattle.standard.specs.Loading.{load₁₂₈}
-use Rattle.standard.specs.Refusals.{accepted, bad_bits, bad_field, bad_key, bits_test, field_test, key_test, limit_test, spent, tested}
+use Rattle.standard.specs.Refusals.{accepted, bits_test, field_test, key_test, limit_test, tested}
 use Rattle.mask.specs.Outcome.{Outcome}
-use Rattle.mask.specs.declared.eea3.OnceAnswer.{OnceAnswer}
-use Rattle.mask.specs.declared.eea3.OnceAnswer.TheVariants.{Done, BadKey, BadField, BadBits, Spent}
+use Rattle.refusals.specs.declared.Refusal.{Refusal}
+use Rattle.refusals.specs.Numbers.{answer_number}
+use Rattle.std.specs.Result.{result_unwrap_or}
 
--- the number of each case, and the count of words drawn
-abbrev pub once_number : OnceAnswer → ℕ
-once_number (Done n) = accepted
-once_number BadKey = bad_key
-once_number BadField = bad_field
-once_number BadBits = bad_bits
-once_number Spent = spent
-
-abbrev pub once_count : OnceAnswer → ℕ
-once_count (Done n) = n
-once_count BadKey = 0
-once_count BadField = 0
-once_count BadBits = 0
-once_count Spent = 0
-
--- all that a call gives: that number, the count, and the buffer
+-- all that a call gives: its number, the count of words drawn, and the buffer
 pub record Once : Type 0 where
   pub number : ℕ
   pub count : ℕ
   pub buffer : List ℕ
 
-abbrev pub once_told : OnceAnswer → List ℕ → Once
-once_told r buffer = record { number = once_number r; count = once_count r; buffer = buffer }
+abbrev pub once_told : Result ℕ Refusal → List ℕ → Once
+once_told r buffer = record { number = answer_number r; count = result_unwrap_or r 0; buffer = buffer }
 
 -- a refusal hands back the buffer as it came, and a zero count
 abbrev pub refused_once : List ℕ → ℕ → Once

@@ -1,36 +1,24 @@
 -- What a masking call gives: the standard's tests in their order, then the mask.
-use Rattle.std.specs.Prelude.{List, [], ◌∷◌, ℕ, length}
+use Rattle.std.specs.Prelude.{List, [], ◌∷◌, ℕ, Result, length}
 use Rattle.standard.specs.Confidentiality.{mask_crate, mask_clean, words_to_mask_clean, words_to_mask_crate}
 use Rattle.standard.specs.Generator.{word_at}
-use Rattle.standard.specs.Refusals.{accepted, bad_bits, bad_state, bits_test, limit_test, spent, state_test, tested}
+use Rattle.standard.specs.Refusals.{accepted, bits_test, limit_test, state_test, tested}
 use Rattle.standard.specs.States.{Counted, Held, drawn_on, generator_formed}
 use Rattle.zuc.specs.Reading.{counted_of}
-use Rattle.mask.specs.declared.MaskAnswer.{MaskAnswer}
-use Rattle.mask.specs.declared.MaskAnswer.TheVariants.{Done, BadState, BadBits, Spent}
-use Rattle.mask.specs.declared.Masked.{Masked}
+use Rattle.zuc.specs.declared.Generator.{Generator}
+use Rattle.refusals.specs.declared.Refusal.{Refusal}
+use Rattle.refusals.specs.Numbers.{answer_number}
+use Rattle.std.specs.Result.{result_unwrap_or}
 
--- the number of each case, and the count of words drawn
-abbrev pub number_of : MaskAnswer → ℕ
-number_of (Done n) = accepted
-number_of BadState = bad_state
-number_of BadBits = bad_bits
-number_of Spent = spent
-
-abbrev pub count_of : MaskAnswer → ℕ
-count_of (Done n) = n
-count_of BadState = 0
-count_of BadBits = 0
-count_of Spent = 0
-
--- all that a call gives: that number, the count, the state handed back, and the buffer
+-- all that a call gives: its number, the count of words drawn, the state handed back, and the buffer
 pub record Outcome : Type 0 where
   pub number : ℕ
   pub count : ℕ
   pub state : Counted Held
   pub buffer : List ℕ
 
-abbrev pub told : Masked → List ℕ → Outcome
-told r buffer = record { number = number_of r.answer; count = count_of r.answer; state = counted_of r.state; buffer = buffer }
+abbrev pub told : Result ℕ Refusal → Generator → List ℕ → Outcome
+told r g buffer = record { number = answer_number r; count = result_unwrap_or r 0; state = counted_of g; buffer = buffer }
 
 -- a refusal hands back state and buffer as they came, and a zero count
 abbrev pub refused : Counted Held → List ℕ → ℕ → Outcome

@@ -8,20 +8,11 @@ ghost use Rattle.standard.specs.Generator.{keystream};
 ghost use Rattle.standard.specs.Loading.{load₁₂₈};
 
 use super::{Reach, mask_from, reach_of};
+use refusals::Refusal;
 use words::fields_fit;
 use zuc::Zuc;
 use zuc_loading::eea3::iv;
 use zuc_loading::zuc128::load;
-
-// The words drawn, or why the call was refused.
-#[derive(Clone, Copy)]
-pub enum OnceAnswer {
-    Done(usize),
-    BadKey,
-    BadField,
-    BadBits,
-    Spent,
-}
 
 // The mask by the keystream of a key of 16 bytes. The state after it is nobody's, so that no word is drawn but for a byte.
 fn mask_by(
@@ -64,22 +55,22 @@ fn masked(
     key: &[u8],
     buf: &mut [u8],
     bits: usize,
-) -> OnceAnswer
+) -> Result<usize, Refusal>
     ensures { once_told result buf.new ≡ plain-EEA3 clean count bearer direction key.now bits buf.old }
 {
     if key.len() != 16 {
-        return OnceAnswer::BadKey;
+        return Err(Refusal::BadKey);
     }
     if !words::bits_fit(bits, buf.len()) {
-        return OnceAnswer::BadBits;
+        return Err(Refusal::BadBits);
     }
     let reach = reach_of(clean, bits, buf.len());
     let drawn = reach.drawn;
     if !words::has_left(0, drawn) {
-        return OnceAnswer::Spent;
+        return Err(Refusal::Spent);
     }
     mask_by(count, bearer, direction, key, buf, bits, reach);
-    OnceAnswer::Done(drawn)
+    Ok(drawn)
 }
 
 // Both modes of the strict form: a bearer above 31 or a direction above 1 is refused.
@@ -91,14 +82,14 @@ fn masked_strict(
     key: &[u8],
     buf: &mut [u8],
     bits: usize,
-) -> OnceAnswer
+) -> Result<usize, Refusal>
     ensures { once_told result buf.new ≡ strict-EEA3 clean count bearer direction key.now bits buf.old }
 {
     if key.len() != 16 {
-        return OnceAnswer::BadKey;
+        return Err(Refusal::BadKey);
     }
     if !fields_fit(bearer, direction) {
-        return OnceAnswer::BadField;
+        return Err(Refusal::BadField);
     }
     masked(clean, count, bearer, direction, key, buf, bits)
 }
@@ -111,7 +102,7 @@ pub fn mask_crate(
     key: &[u8],
     buf: &mut [u8],
     bits: usize,
-) -> OnceAnswer
+) -> Result<usize, Refusal>
     ensures { once_told result buf.new ≡ crate-EEA3 count bearer direction key.now bits buf.old }
 {
     masked(false, count, bearer, direction, key, buf, bits)
@@ -125,7 +116,7 @@ pub fn mask_clean(
     key: &[u8],
     buf: &mut [u8],
     bits: usize,
-) -> OnceAnswer
+) -> Result<usize, Refusal>
     ensures { once_told result buf.new ≡ clean-EEA3 count bearer direction key.now bits buf.old }
 {
     masked(true, count, bearer, direction, key, buf, bits)
@@ -139,7 +130,7 @@ pub fn mask_crate_strict(
     key: &[u8],
     buf: &mut [u8],
     bits: usize,
-) -> OnceAnswer
+) -> Result<usize, Refusal>
     ensures { once_told result buf.new ≡ strict_crate-EEA3 count bearer direction key.now bits buf.old }
 {
     masked_strict(false, count, bearer, direction, key, buf, bits)
@@ -153,7 +144,7 @@ pub fn mask_clean_strict(
     key: &[u8],
     buf: &mut [u8],
     bits: usize,
-) -> OnceAnswer
+) -> Result<usize, Refusal>
     ensures { once_told result buf.new ≡ strict_clean-EEA3 count bearer direction key.now bits buf.old }
 {
     masked_strict(true, count, bearer, direction, key, buf, bits)

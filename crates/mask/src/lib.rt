@@ -14,6 +14,7 @@ ghost use Rattle.zuc.specs.Reading.{counted_of, held_of};
 ghost use Rattle.zuc_turn.specs.InnerRun.{Laid, Low, Standing, raised_of, state_at};
 
 use mask_bulk::mask_on;
+use refusals::Refusal;
 use words::keep_high;
 use zuc::boxes::s1;
 use zuc::{Generator, Loaded, Zuc};
@@ -22,22 +23,6 @@ use zuc_bulk::{index_after, lay_state, state_of};
 use zuc_turn::{Halves, raised};
 
 pub mod eea3;
-
-// What a call answers: the words drawn, or why it was refused.
-#[derive(Clone, Copy)]
-pub enum MaskAnswer {
-    Done(usize),
-    BadState,
-    BadBits,
-    Spent,
-}
-
-// The answer, and the state handed back.
-#[derive(Clone, Copy)]
-pub struct Masked {
-    pub answer: MaskAnswer,
-    pub state: Generator,
-}
 
 // Zeroes from a place on.
 fn zero_from(buf: &mut [u8], from: usize)
@@ -163,51 +148,36 @@ fn mask_from(fresh: bool, z: Zuc, buf: &mut [u8], bits: usize, reach: Reach) -> 
     state_of(&run, h, index_after(z.start, reach.drawn))
 }
 
-// Both modes: the tests, and then the mask.
-fn mask(clean: bool, state: Generator, buf: &mut [u8], bits: usize) -> Masked
-    ensures { told result buf.new ≡ mask_outcome clean (counted_of state) bits buf.old }
+// Both modes: the tests, and then the mask. The words drawn, or BadState, BadBits, Spent, in this order: then state and buffer stay as they came.
+fn mask(clean: bool, state: &mut Generator, buf: &mut [u8], bits: usize) -> Result<usize, Refusal>
+    ensures { told result state.new buf.new ≡ mask_outcome clean (counted_of state.old) bits buf.old }
 {
-    if !zuc::is_formed(state) {
-        return Masked {
-            answer: MaskAnswer::BadState,
-            state,
-        };
+    if !zuc::is_formed(*state) {
+        return Err(Refusal::BadState);
     }
     if !words::bits_fit(bits, buf.len()) {
-        return Masked {
-            answer: MaskAnswer::BadBits,
-            state,
-        };
+        return Err(Refusal::BadBits);
     }
-    let count = state.count;
     let reach = reach_of(clean, bits, buf.len());
     let drawn = reach.drawn;
-    if !words::has_left(count, drawn) {
-        return Masked {
-            answer: MaskAnswer::Spent,
-            state,
-        };
+    if !words::has_left(state.count, drawn) {
+        return Err(Refusal::Spent);
     }
-    let z = mask_from(false, state.z, buf, bits, reach);
-    Masked {
-        answer: MaskAnswer::Done(drawn),
-        state: Generator {
-            z,
-            count: count + drawn,
-        },
-    }
+    state.z = mask_from(false, state.z, buf, bits, reach);
+    state.count += drawn;
+    Ok(drawn)
 }
 
 // As the crate does.
-pub fn mask_crate(state: Generator, buf: &mut [u8], bits: usize) -> Masked
-    ensures { told result buf.new ≡ crate_outcome (counted_of state) bits buf.old }
+pub fn mask_crate(state: &mut Generator, buf: &mut [u8], bits: usize) -> Result<usize, Refusal>
+    ensures { told result state.new buf.new ≡ crate_outcome (counted_of state.old) bits buf.old }
 {
     mask(false, state, buf, bits)
 }
 
 // With every bit past the length zeroed.
-pub fn mask_clean(state: Generator, buf: &mut [u8], bits: usize) -> Masked
-    ensures { told result buf.new ≡ clean_outcome (counted_of state) bits buf.old }
+pub fn mask_clean(state: &mut Generator, buf: &mut [u8], bits: usize) -> Result<usize, Refusal>
+    ensures { told result state.new buf.new ≡ clean_outcome (counted_of state.old) bits buf.old }
 {
     mask(true, state, buf, bits)
 }

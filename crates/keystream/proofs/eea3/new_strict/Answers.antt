@@ -1,6 +1,5 @@
 -- `new_strict` is the strict EEA3 start: the tests of key and fields, and past them the plain start, which then trims nothing.
 use mathlib.Core.Path.{◌∙◌, sym}
-use borrow.Author.Tests.{not-false, not-true}
 use Rattle.keystream.specs.Starts.{strict_start-EEA3}
 use Rattle.standard.proofs.Fields.{bad-field, bad-key, field-passed}
 use Rattle.keystream.proofs.Strict.{form, strict-eea3}
@@ -10,19 +9,18 @@ pub returns-then-key-ne16 : goal.returns-then-key-ne16
 unfolding strict_start-EEA3
 returns-then-key-ne16 c =
     let a = c.args in
-    c.refused.ensures ∙ bad-key (form a.count a.bearer a.direction a.key.now) c.if-key-ne16.true
+    bad-key (form a.count a.bearer a.direction a.key.now) c.if-key-ne16.true
 
 pub returns-then-not-fields_fit : goal.returns-then-not-fields_fit
 unfolding strict_start-EEA3
 returns-then-not-fields_fit c =
     let a = c.args in
-    c.refused-then-not-fields_fit.ensures
-    ∙ bad-field (form a.count a.bearer a.direction a.key.now) c.if-key-ne16.false
-    (sym c.fields_fit.ensures ∙ not-true c.fields_fit.result c.if-not-fields_fit.true-raw)
+    bad-field (form a.count a.bearer a.direction a.key.now) c.if-key-ne16.false
+    (sym c.if-not-fields_fit.ensures)
 
 pub returns : goal.returns
 returns c =
     let a = c.args in
     c.new.ensures
     ∙ sym (strict-eea3 a.count a.bearer a.direction a.key.now
-    (field-passed a.bearer a.direction (sym c.fields_fit.ensures ∙ not-false c.fields_fit.result c.if-not-fields_fit.false-raw)))
+    (field-passed a.bearer a.direction (sym c.if-not-fields_fit.ensures)))

@@ -6,11 +6,11 @@ use Rattle.keystream.proofs.zuc128.new.Goals as goal
 
 pub returns-then-key-ne16 : goal.returns-then-key-ne16
 unfolding start₁₂₈
-returns-then-key-ne16 c = bad-key 16 16 c.args.key.now c.args.iv.now _ c.if-key-ne16.true c.refused.ensures
+returns-then-key-ne16 c = bad-key 16 16 c.args.key.now c.args.iv.now _ c.if-key-ne16.true
 
 pub returns-then-iv-ne16 : goal.returns-then-iv-ne16
 unfolding start₁₂₈
-returns-then-iv-ne16 c = bad-iv 16 16 c.args.key.now c.args.iv.now _ c.if-key-ne16.false c.if-iv-ne16.true c.refused-then-iv-ne16.ensures
+returns-then-iv-ne16 c = bad-iv 16 16 c.args.key.now c.args.iv.now _ c.if-key-ne16.false c.if-iv-ne16.true
 
 pub load-requires : goal.load-requires
 load-requires c =

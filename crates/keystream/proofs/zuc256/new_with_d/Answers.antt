@@ -43,4 +43,4 @@ pub returns-in_default : goal.returns-in_default
 unfolding start_tag₂₅₆ tested
 returns-in_default c =
     let other = c.in_default.in_default-own.rest in
-    rw (ne_eqb _ 4 other.0.0.1, ne_eqb _ 8 other.0.1, ne_eqb _ 16 other.1) c.refused.ensures
+    rw (ne_eqb _ 4 other.0.0.1, ne_eqb _ 8 other.0.1, ne_eqb _ 16 other.1) refl

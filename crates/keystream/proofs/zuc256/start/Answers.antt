@@ -6,11 +6,11 @@ use Rattle.keystream.proofs.zuc256.start.Goals as goal
 
 pub returns-then-key-ne32 : goal.returns-then-key-ne32
 unfolding start₂₅₆
-returns-then-key-ne32 c = bad-key 32 23 c.args.key.now c.args.iv.now _ c.if-key-ne32.true c.refused.ensures
+returns-then-key-ne32 c = bad-key 32 23 c.args.key.now c.args.iv.now _ c.if-key-ne32.true
 
 pub returns-then-iv-ne23 : goal.returns-then-iv-ne23
 unfolding start₂₅₆
-returns-then-iv-ne23 c = bad-iv 32 23 c.args.key.now c.args.iv.now _ c.if-key-ne32.false c.if-iv-ne23.true c.refused-then-iv-ne23.ensures
+returns-then-iv-ne23 c = bad-iv 32 23 c.args.key.now c.args.iv.now _ c.if-key-ne32.false c.if-iv-ne23.true
 
 pub load-requires : goal.load-requires
 load-requires c =

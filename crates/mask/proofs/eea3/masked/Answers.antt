@@ -4,7 +4,7 @@ use mathlib.Core.Path.{◌≡◌, ◌∙◌, sym}
 use Prim.Native.Nat.{◌*◌}
 use lib.Dec.{eqb, leb}
 use lib.ListN.{length}
-use borrow.Author.Tests.{eq-eqb, leb-true, ne_eqb, not-false, not-true}
+use borrow.Author.Tests.{eq-eqb, leb-true, ne_eqb}
 use Rattle.standard.specs.Generator.{keystream}
 use Rattle.standard.specs.Refusals.{accepted, key_test}
 use Rattle.mask.specs.Modes.{mode_mask, mode_words}
@@ -38,7 +38,7 @@ returns-then-key-ne16 c =
 pub returns-then-not-bits_fit : goal.returns-then-not-bits_fit
 unfolding plain_tested
 returns-then-not-bits_fit c =
-    bad-bits (call c.args.clean c.args.count c.args.bearer c.args.direction c.args.key.now c.args.bits c.args.buf.now) (eq-eqb _ 16 c.if-key-ne16.false) (sym c.bits_fit.ensures ∙ not-true _ c.if-not-bits_fit.true-raw)
+    bad-bits (call c.args.clean c.args.count c.args.bearer c.args.direction c.args.key.now c.args.bits c.args.buf.now) (eq-eqb _ 16 c.if-key-ne16.false) (sym c.if-not-bits_fit.ensures)
 
 pub returns-then-not-has_left : goal.returns-then-not-has_left
 unfolding plain_tested
@@ -46,13 +46,13 @@ returns-then-not-has_left c =
     let keyed : eqb (length c.args.key.now) 16 ≡ true =
     eq-eqb _ 16 c.if-key-ne16.false in
     let fits : leb c.args.bits (length c.args.buf.now * 8) ≡ true =
-    sym c.bits_fit.ensures ∙ not-false _ c.if-not-bits_fit.false-raw in
-    too_many (call c.args.clean c.args.count c.args.bearer c.args.direction c.args.key.now c.args.bits c.args.buf.now) keyed fits c.reach_of-reach.ensures.words (sym c.has_left.ensures ∙ not-true _ c.if-not-has_left.true-raw)
+    sym c.if-not-bits_fit.ensures in
+    too_many (call c.args.clean c.args.count c.args.bearer c.args.direction c.args.key.now c.args.bits c.args.buf.now) keyed fits c.reach_of-reach.ensures.words (sym c.if-not-has_left.ensures)
 
 pub mask_by-requires : goal.mask_by-requires
 mask_by-requires c =
     let fits : leb c.args.bits (length c.args.buf.now * 8) ≡ true =
-    sym c.bits_fit.ensures ∙ not-false _ c.if-not-bits_fit.false-raw in
+    sym c.if-not-bits_fit.ensures in
     record { key_fits = c.if-key-ne16.false; enough = c.reach_of-reach.ensures.enough (leb-true _ _ fits) }
 
 pub returns : goal.returns
@@ -61,9 +61,9 @@ returns c =
     let keyed : eqb (length c.args.key.now) 16 ≡ true =
     eq-eqb _ 16 c.if-key-ne16.false in
     let fits : leb c.args.bits (length c.args.buf.now * 8) ≡ true =
-    sym c.bits_fit.ensures ∙ not-false _ c.if-not-bits_fit.false-raw in
+    sym c.if-not-bits_fit.ensures in
     let a = c.args in
     let reaches = c.reach_of-reach.ensures in
     let masked = c.mask_by.ensures ∙ mode-mask a.clean _ a.bits a.buf.now reaches.end in
-    done (call c.args.clean c.args.count c.args.bearer c.args.direction c.args.key.now c.args.bits c.args.buf.now) keyed fits reaches.words (sym c.has_left.ensures ∙ not-false _ c.if-not-has_left.false-raw)
+    done (call c.args.clean c.args.count c.args.bearer c.args.direction c.args.key.now c.args.bits c.args.buf.now) keyed fits reaches.words (sym c.if-not-has_left.ensures)
     (λ i. record { number = accepted; count = reaches.words i; buffer = masked i })

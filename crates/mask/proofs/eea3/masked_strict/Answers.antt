@@ -1,6 +1,5 @@
 -- `masked_strict`: the tests of key and fields, and past them the plain form, which then trims nothing.
 use mathlib.Core.Path.{◌∙◌, sym}
-use borrow.Author.Tests.{not-false, not-true}
 use Rattle.standard.proofs.Fields.{bad-field, bad-key, field-passed}
 use Rattle.mask.specs.Once.{strict_tested}
 use Rattle.mask.proofs.Once.{form, strict-mask}
@@ -17,11 +16,11 @@ unfolding strict_tested
 returns-then-not-fields_fit c =
     let a = c.args in
     bad-field (form a.count a.bearer a.direction a.key.now a.bits a.buf.now a.clean) c.if-key-ne16.false
-    (sym c.fields_fit.ensures ∙ not-true c.fields_fit.result c.if-not-fields_fit.true-raw)
+    (sym c.if-not-fields_fit.ensures)
 
 pub returns : goal.returns
 returns c =
     let a = c.args in
     c.masked.ensures
     ∙ sym (strict-mask a.count a.bearer a.direction a.key.now a.bits a.buf.now a.clean
-    (field-passed a.bearer a.direction (sym c.fields_fit.ensures ∙ not-false c.fields_fit.result c.if-not-fields_fit.false-raw)))
+    (field-passed a.bearer a.direction (sym c.if-not-fields_fit.ensures)))
