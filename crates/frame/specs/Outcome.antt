@@ -1,25 +1,14 @@
 -- What writing and reading a frame give (request 2026-01): the tests in their order, then the standard's frame, or its contents.
-use Rattle.std.specs.Prelude.{List, [], ◌∷◌, ℕ, ◌-◌, eqb, leb, length, ◌&&◌}
+use Rattle.std.specs.Prelude.{List, [], ◌∷◌, ℕ, ◌-◌, Result, Ok, Err, ⊤, eqb, leb, length, ◌&&◌}
 use Rattle.standard.specs.Frame.{Fields, beside_bytes, body_fits, body_in, fields_in, frame_of, masked_body, most_bytes, tag_in, tag_over, two_at, version, with_body}
 use Rattle.standard.specs.Integrity.{drawn_by_tag-EIA3}
 use Rattle.standard.specs.Notation.{◌⟨◌⟩}
-use Rattle.standard.specs.Refusals.{Test, accepted, bad_body, bad_field, bad_frame, bad_key, bad_length, bad_tag, field_test, key_test, limit_test, spent, tested}
-use Rattle.frame.specs.declared.FrameAnswer.{FrameAnswer}
-use Rattle.frame.specs.declared.FrameAnswer.TheVariants.{Done, BadKey, BadFrame, BadLength, BadField, BadBody, Spent, BadTag}
+use Rattle.standard.specs.Refusals.{Test, accepted, bad_body, bad_frame, bad_length, bad_tag, field_test, key_test, limit_test, tested}
 use Rattle.frame.specs.declared.FrameFields.{FrameFields}
-use Rattle.frame.specs.declared.Opened.{Opened}
+use Rattle.refusals.specs.declared.Refusal.{Refusal}
+use Rattle.refusals.specs.Numbers.{answer_number, refusal_number}
 
--- the number of each case
-abbrev pub number_of : FrameAnswer → ℕ
-number_of Done = accepted
-number_of BadKey = bad_key
-number_of BadFrame = bad_frame
-number_of BadLength = bad_length
-number_of BadField = bad_field
-number_of BadBody = bad_body
-number_of Spent = spent
-number_of BadTag = bad_tag
-
+-- the struct of the code, read as the standard's fields
 abbrev pub fields_of : FrameFields → Fields
 fields_of f = record { COUNT = f.count; bearer = f.bearer; direction = f.direction; L = f.bits }
 
@@ -57,8 +46,8 @@ pub record Written : Type 0 where
   pub number : ℕ
   pub frame : List ℕ
 
-abbrev pub written_told : FrameAnswer → List ℕ → Written
-written_told r frame = record { number = number_of r; frame = frame }
+abbrev pub written_told : Result ⊤ Refusal → List ℕ → Written
+written_told r frame = record { number = answer_number r; frame = frame }
 
 abbrev pub write_tests : (CK IK : List ℕ) → Fields → List ℕ → List Test
 write_tests CK IK f frame =
@@ -76,8 +65,9 @@ pub record Readout : Type 0 where
   pub fields : Fields
   pub frame : List ℕ
 
-abbrev pub read_told : Opened → List ℕ → Readout
-read_told r frame = record { number = number_of r.answer; fields = fields_of r.fields; frame = frame }
+abbrev pub read_told : Result FrameFields Refusal → List ℕ → Readout
+read_told (Ok f) frame = record { number = accepted; fields = fields_of f; frame = frame }
+read_told (Err refusal) frame = record { number = refusal_number refusal; fields = no_fields; frame = frame }
 
 abbrev pub read_tests : (CK IK : List ℕ) → List ℕ → List Test
 read_tests CK IK frame =

@@ -1,59 +1,24 @@
 // A sealed block two vendors can read (request 2026-01): a frame is written and read in the buffer that the caller lends, and in no other.
 #![tactic(auto)]
 
-ghost use Rattle.std.specs.Prelude.{◌≡◌, ◌≤◌, ◌+◌, eqb, length};
+ghost use Rattle.std.specs.Prelude.{IfOk, ◌≡◌, ◌≤◌, ◌<◌, ◌+◌, ◌^◌, length};
 ghost use Rattle.frame.specs.Inner.{Sealable, Taken};
-ghost use Rattle.frame.specs.Outcome.{fields_of, number_of, read_outcome, read_tests, read_told, write_outcome, write_tests, written_told};
-ghost use Rattle.mac.specs.Calls.{once_told-128};
+ghost use Rattle.frame.specs.Outcome.{fields_of, read_outcome, read_tests, read_told, write_outcome, write_tests, written_told};
+ghost use Rattle.refusals.specs.Numbers.{answer_number};
 ghost use Rattle.standard.specs.Bits.{bytes_of};
 ghost use Rattle.standard.specs.Frame.{body_fits, body_in, fields_in, four_at, frame_of, head_of, masked_body, tag_over, two_at};
 ghost use Rattle.standard.specs.Refusals.{accepted, tested};
 
-use mac::Once128;
+use refusals::Refusal;
 use words::{byte_of, copy, fields_fit, keep_high, word_of};
 
-// What a call answers.
-#[derive(Clone, Copy)]
-pub enum FrameAnswer {
-    Done,
-    BadKey,
-    BadFrame,
-    BadLength,
-    BadField,
-    BadBody,
-    Spent,
-    BadTag,
-}
-
 // What a frame carries beside its body.
-#[derive(Clone, Copy)]
+#[derive(Clone, Copy, Debug, PartialEq, Eq)]
 pub struct FrameFields {
     pub count: u32,
     pub bearer: u8,
     pub direction: u8,
     pub bits: u32,
-}
-
-// What a reader answers: the fields are zeros where it refuses.
-#[derive(Clone, Copy)]
-pub struct Opened {
-    pub answer: FrameAnswer,
-    pub fields: FrameFields,
-}
-
-fn is_done(answer: FrameAnswer) -> bool
-    ensures { result ≡ eqb (number_of answer) accepted }
-{
-    match answer {
-        FrameAnswer::Done => true,
-        FrameAnswer::BadKey => false,
-        FrameAnswer::BadFrame => false,
-        FrameAnswer::BadLength => false,
-        FrameAnswer::BadField => false,
-        FrameAnswer::BadBody => false,
-        FrameAnswer::Spent => false,
-        FrameAnswer::BadTag => false,
-    }
 }
 
 // Whether a body has the bytes of so many bits, and no bit past them set in its last byte.
@@ -73,30 +38,30 @@ fn body_fits(bits: u32, body: &[u8]) -> bool
 }
 
 // The tests of a writer, in their order.
-fn writable(ck: &[u8], ik: &[u8], f: FrameFields, frame: &[u8]) -> FrameAnswer
-    ensures { number_of result ≡ tested (write_tests ck.now ik.now (fields_of f) frame.now) (λ n. n) accepted }
+fn writable(ck: &[u8], ik: &[u8], f: FrameFields, frame: &[u8]) -> Result<(), Refusal>
+    ensures { answer_number result ≡ tested (write_tests ck.now ik.now (fields_of f) frame.now) (λ n. n) accepted }
 {
     if ck.len() != 16 {
-        return FrameAnswer::BadKey;
+        return Err(Refusal::BadKey);
     }
     if ik.len() != 16 {
-        return FrameAnswer::BadKey;
+        return Err(Refusal::BadKey);
     }
     let n = frame.len();
     if n < 17 {
-        return FrameAnswer::BadFrame;
+        return Err(Refusal::BadFrame);
     }
     if 65538 < n {
-        return FrameAnswer::BadLength;
+        return Err(Refusal::BadLength);
     }
     if !fields_fit(f.bearer, f.direction) {
-        return FrameAnswer::BadField;
+        return Err(Refusal::BadField);
     }
     let end = n - 4;
     if !body_fits(f.bits, &frame[13..end]) {
-        return FrameAnswer::BadBody;
+        return Err(Refusal::BadBody);
     }
-    FrameAnswer::Done
+    Ok(())
 }
 
 // A number of two bytes at a place, and one of four.
@@ -128,28 +93,13 @@ fn fields_in(frame: &[u8]) -> FrameFields
     }
 }
 
-// The tag of a one-shot that was not refused.
-fn tag_of(once: Once128) -> u32
-    ensures { result ≡ (once_told-128 once).tag }
-{
-    match once {
-        Once128::Tag(t) => t,
-        Once128::BadKey => 0,
-        Once128::BadIv => 0,
-        Once128::BadField => 0,
-        Once128::BadBits => 0,
-        Once128::Spent => 0,
-    }
-}
-
 // EIA3 over a masked body.
 fn tag_over(ik: &[u8], f: FrameFields, body: &[u8]) -> u32
     requires { Sealable ik.now (fields_of f) body.now }
     ensures { result ≡ tag_over ik.now (fields_of f) body.now }
 {
     let l = f.bits as usize;
-    let once = mac::eia3::compute_strict(f.count, f.bearer, f.direction, ik, body, l);
-    tag_of(once)
+    mac::eia3::compute_strict(f.count, f.bearer, f.direction, ik, body, l).unwrap_or(0)
 }
 
 // A body masked, or, done again, unmasked.
@@ -158,7 +108,8 @@ fn mask_body(ck: &[u8], f: FrameFields, body: &mut [u8])
     ensures { body.new ≡ masked_body ck.now (fields_of f) body.old }
 {
     let l = f.bits as usize;
-    mask::eea3::mask_clean_strict(f.count, f.bearer, f.direction, ck, body, l);
+    // Nothing is refused of what can be sealed.
+    let _ = mask::eea3::mask_clean_strict(f.count, f.bearer, f.direction, ck, body, l);
 }
 
 // The bytes before a body of n bytes.
@@ -213,70 +164,56 @@ fn seal(ck: &[u8], ik: &[u8], f: FrameFields, frame: &mut [u8])
 }
 
 // Finds the plain body at byte 13, masks it there and fills in every other byte; or BadKey, BadFrame, BadLength, BadField, BadBody, in this order.
-pub fn write(ck: &[u8], ik: &[u8], f: FrameFields, frame: &mut [u8]) -> FrameAnswer
+pub fn write(ck: &[u8], ik: &[u8], f: FrameFields, frame: &mut [u8]) -> Result<(), Refusal>
     ensures { written_told result frame.new ≡ write_outcome ck.now ik.now (fields_of f) frame.old }
 {
-    let answer = writable(ck, ik, f, frame);
-    if !is_done(answer) {
-        return answer;
-    }
+    writable(ck, ik, f, frame)?;
     seal(ck, ik, f, frame);
-    answer
+    Ok(())
 }
 
-// The tests of a reader, in their order. The tag is held against EIA3's as one number: no byte of it ends the comparison.
-fn readable(ck: &[u8], ik: &[u8], frame: &[u8]) -> FrameAnswer
-    ensures { number_of result ≡ tested (read_tests ck.now ik.now frame.now) (λ n. n) accepted }
+// The fields, past the tests of a reader, in their order. The tag is held against EIA3's as one number: no byte of it ends the comparison.
+fn readable(ck: &[u8], ik: &[u8], frame: &[u8]) -> Result<FrameFields, Refusal>
+    ensures number { answer_number result ≡ tested (read_tests ck.now ik.now frame.now) (λ n. n) accepted }
+    ensures fields { IfOk result (λ f. (fields_of f ≡ fields_in frame.now) × (f.bits < 2 ^ 32)) }
 {
     if ck.len() != 16 {
-        return FrameAnswer::BadKey;
+        return Err(Refusal::BadKey);
     }
     if ik.len() != 16 {
-        return FrameAnswer::BadKey;
+        return Err(Refusal::BadKey);
     }
     let n = frame.len();
     if n < 17 {
-        return FrameAnswer::BadFrame;
+        return Err(Refusal::BadFrame);
     }
     if frame[0] != 1 {
-        return FrameAnswer::BadFrame;
+        return Err(Refusal::BadFrame);
     }
     if two_at(frame, 1) as usize != n - 3 {
-        return FrameAnswer::BadLength;
+        return Err(Refusal::BadLength);
     }
     let f = fields_in(frame);
     if !fields_fit(f.bearer, f.direction) {
-        return FrameAnswer::BadField;
+        return Err(Refusal::BadField);
     }
     let end = n - 4;
     if !body_fits(f.bits, &frame[13..end]) {
-        return FrameAnswer::BadBody;
+        return Err(Refusal::BadBody);
     }
     if four_at(frame, end) != tag_over(ik, f, &frame[13..end]) {
-        return FrameAnswer::BadTag;
+        return Err(Refusal::BadTag);
     }
-    FrameAnswer::Done
+    Ok(f)
 }
 
 // Checks the tag first; then leaves the plain body at byte 13, touches no other byte and answers the fields; or BadKey, BadFrame, BadLength,
 // BadField, BadBody, BadTag, in this order.
-pub fn read(ck: &[u8], ik: &[u8], frame: &mut [u8]) -> Opened
+pub fn read(ck: &[u8], ik: &[u8], frame: &mut [u8]) -> Result<FrameFields, Refusal>
     ensures { read_told result frame.new ≡ read_outcome ck.now ik.now frame.old }
 {
-    let answer = readable(ck, ik, frame);
-    if !is_done(answer) {
-        return Opened {
-            answer,
-            fields: FrameFields {
-                count: 0,
-                bearer: 0,
-                direction: 0,
-                bits: 0,
-            },
-        };
-    }
-    let fields = fields_in(frame);
+    let fields = readable(ck, ik, frame)?;
     let end = frame.len() - 4;
     mask_body(ck, fields, &mut frame[13..end]);
-    Opened { answer, fields }
+    Ok(fields)
 }

@@ -2,71 +2,37 @@
 use mathlib.Core.Bool.{Bool, true, false}
 use mathlib.Core.List.{List, [], ◌∷◌}
 use mathlib.Core.Path.{◌≡◌, refl, sym, ap, ap₂, ◌∙◌, subst}
-use Prim.Native.Nat.{ℕ, suc, ◌+◌, ◌*◌, ◌/◌, ◌<◌, ◌≤◌}
+use Prim.Native.Nat.{ℕ, ◌+◌, ◌*◌, ◌/◌, ◌<◌, ◌≤◌}
 use native.Mathlib.Nat.{zero-add}
-use native.Mathlib.Omega.{arith}
 use lib.Dec.{eqb, leb}
 use lib.ListN.{length}
-use borrow.Author.Tests.{eqb-true, leb-true, ne_eqb}
+use borrow.Author.Tests.{eqb-true, leb-true}
 use Rattle.standard.specs.Generator.{State, keystream, started}
 use Rattle.standard.specs.Integrity.{IV-EIA3, drawn_after-ZUC256, drawn_by_tag-ZUC256, tag-EIA3, tag-ZUC256}
 use Rattle.standard.specs.Loading.{load₁₂₈, load₂₅₆, row_of}
-use Rattle.standard.specs.Notation.{◌⟨◌⟩}
-use Rattle.standard.specs.Refusals.{bad_bits, bad_field, bad_key, bad_state, bits_test, iv_test, key_test, limit_test, spent, tested, width_test}
+use Rattle.standard.specs.Refusals.{Test, bad_bits, bad_state, bits_test, iv_test, key_test, limit_test, spent, tested, width_test}
 use Rattle.standard.specs.States.{Counted, Stored, formed, formed-128, from_start, from_zero, limit, tag_formed, zero_stored}
 use Rattle.standard.proofs.Generator.{stream-is}
 use Rattle.standard.proofs.Table.{and_left, and_right}
 use Rattle.standard.proofs.Tested.{tested-map, tested-when}
-use denote.Enum.Declared.{tag_of}
 use mathlib.Core.Logic.{⊎_elim}
-use types.Run.{OneOf}
-use Rattle.keystream.specs.contracts.StartAnswer.{the_type}
-use Rattle.keystream.specs.declared.StartAnswer.{StartAnswer}
-use Rattle.keystream.specs.declared.StartAnswer.TheVariants.{Started, BadWidth, BadKey, BadIv, BadField}
-use Rattle.keystream.specs.Starts.{StartOutcome, accepted_start, refused_start, start_number, start_tag₂₅₆, start₁₂₈}
+use Rattle.keystream.specs.Starts.{accepted_start, refused_start, start_tag₂₅₆, start₁₂₈}
+use Rattle.refusals.proofs.Once.{refused-number}
+use Rattle.refusals.specs.declared.Refusal.{Refusal}
+use Rattle.refusals.specs.Numbers.{refusal_number}
 use Rattle.mac_registers.specs.Stored.{packed, tag_words}
 use Rattle.mac_registers.specs.Inner.{Holds, Width}
 use Rattle.mac_registers.specs.Tagging.{begun-EIA3, begun-ZUC256, closed-EIA3, closed-ZUC256, updated}
 use Rattle.mac_registers.proofs.Packed.{width_is, width-whole}
 use Rattle.mac_tagging.proofs.Rule.{rule-EIA3, rule-ZUC256}
-use Rattle.mac.specs.Calls.{Outcome, closing, no_words, once_outcome-128, once_outcome-256, once_outcome-EIA3, refused_closing, refused_once, refused_tag, start_outcome-128, start_outcome-256, start_outcome-EIA3}
+use Rattle.mac.specs.Calls.{closing, no_words, once_outcome-128, once_outcome-256, once_outcome-EIA3, refused_closing, refused_once, start_outcome-128, start_outcome-256, start_outcome-EIA3}
 use Rattle.mac.specs.Inner.{begun-128, begun-256, once-from-256, passed_up}
 
--- an answer that a `match` found to be another than `Started`
-abbrev Refused : StartAnswer → Type 0
-Refused a = OneOf (1 ∷ 2 ∷ 3 ∷ 4 ∷ []) (tag_of the_type a)
-
-above : (a : StartAnswer) → Refused a → (k : ℕ) × (start_number a ≡ suc k)
-above Started h =
-    absurd
-    (⊎_elim (λ (e : 0 ≡ 1). omega arith)
-    (λ g. ⊎_elim (λ (e : 0 ≡ 2). omega arith) (λ f. ⊎_elim (λ (e : 0 ≡ 3). omega arith) (λ (e : 0 ≡ 4). omega arith) f) g) h)
-above BadWidth h = (0, refl)
-above BadKey h = (1, refl)
-above BadIv h = (2, refl)
-above BadField h = (7, refl)
-
--- a start, by its answer
-module _ (o : StartOutcome) (r : Counted Stored) where
-  pub started-as : (accepted : Counted Stored) → o.number ≡ 0 → r ≡ accepted
-      → record { number = 0; state = r } ≡ tested (passed_up o ∷ []) refused_tag (record { number = 0; state = accepted })
-  unfolding tested
-  started-as accepted e f = rw e (ap (λ (x : Counted Stored). record { number = 0; state = x }) f)
-
-  pub refused_as : (accepted : Outcome) (a : StartAnswer) → Refused a → o.number ≡ start_number a → r ≡ from_start zero_stored
-      → record { number = start_number a; state = r } ≡ tested (passed_up o ∷ []) refused_tag accepted
-  unfolding tested
-  refused_as accepted a h e f =
-      let k = above a h in
-      rw (e, k.1, ne_eqb (suc k.0) 0 (λ q. omega arith)) (ap (λ (x : Counted Stored). record { number = suc k.0; state = x }) f)
-
--- an answer of ZUC-256 that is none of those with arms of their own, and not of a number that its call never gives
-pub key-refused-256 : (a : StartAnswer) → OneOf (2 ∷ 4 ∷ []) (tag_of the_type a) → (start_number a ≡ bad_field → ⊥) → start_number a ≡ bad_key
-key-refused-256 Started h f = absurd (⊎_elim (λ (e : 0 ≡ 2). omega arith) (λ (e : 0 ≡ 4). omega arith) h)
-key-refused-256 BadWidth h f = absurd (⊎_elim (λ (e : 1 ≡ 2). omega arith) (λ (e : 1 ≡ 4). omega arith) h)
-key-refused-256 BadKey h f = refl
-key-refused-256 BadIv h f = absurd (⊎_elim (λ (e : 3 ≡ 2). omega arith) (λ (e : 3 ≡ 4). omega arith) h)
-key-refused-256 BadField h f = absurd (f refl)
+-- a refused start is passed up
+pub refused_as : {A : Type 0} (refusal : Refusal) (rest : List Test) (refused : ℕ → A) (answer : A)
+    → refused (refusal_number refusal) ≡ tested (passed_up (refused_start (refusal_number refusal)) ∷ rest) refused answer
+unfolding tested
+refused_as refusal rest refused answer = rw (refused-number refusal) refl
 
 -- a closing, by its tests
 module _ {Tag : Type 0} (none : Tag) (ok : Bool) (s : Counted Stored) (words : ℕ) (tail : List ℕ) (l : ℕ) (tag : Tag) where
@@ -143,9 +109,3 @@ holds-short {s} h = subst (λ (n : ℕ). n < s.width) (ap (λ (x : Stored). x.cn
 -- what the start of a ZUC-256 tag has drawn
 pub begun-words : {w : ℕ} → Width w → w / 4 * 3 ≡ drawn_after-ZUC256 (w * 8) 0
 begun-words v = ⊎_elim (λ e. rw e refl) (λ o. ⊎_elim (λ e. rw e refl) (λ e. rw e refl) o) v
-
-pub spelled-tag : (t : List ℕ) → length t ≡ 2 → t ⟨ 0 ⟩ ∷ t ⟨ 1 ⟩ ∷ [] ≡ t
-spelled-tag (a ∷ b ∷ []) e = refl
-spelled-tag [] e = absurd (omega arith)
-spelled-tag (a ∷ []) e = absurd (omega arith)
-spelled-tag (a ∷ b ∷ x ∷ t) e = absurd (omega arith)

@@ -1,22 +1,17 @@
--- Any two outcomes that the promise of a call allows are equal, and none of the calls asks anything: the refusal numbers tell the cases of an
--- answer apart.
+-- Any two outcomes that the promise of a call allows are equal, and none of the calls asks anything: number and tag tell an answer.
 use mathlib.Core.List.{List}
 use mathlib.Core.Path.{◌≡◌, ◌∙◌, ap, refl, sym}
 use Prim.Native.Nat.{ℕ}
-use lib.Dec.{eqb}
 use Rattle.standard.proofs.Promise.{AsksNothing, Tight}
-use Rattle.std.specs.Prelude.{if◌then◌else◌}
-use Rattle.standard.specs.Notation.{◌⟨◌⟩}
-use Rattle.standard.specs.Refusals.{accepted, bad_bits, bad_field, bad_iv, bad_key, bad_state, bad_width}
-use Rattle.zuc.specs.declared.Generator.{Generator}
-use Rattle.zuc.specs.declared.Zuc.{Zuc}
+use Rattle.std.specs.Prelude.{Err, Ok, Result, replicate, ⊤}
+use Rattle.std.specs.Result.{result_unwrap_or}
+use Rattle.refusals.proofs.Once.{answer-once}
+use Rattle.refusals.specs.declared.Refusal.{Refusal}
+use Rattle.refusals.specs.Numbers.{answer_number, refusal_number}
 use Rattle.zuc.proofs.Turning.{read-once}
-use Rattle.zuc.specs.Reading.{counted_of}
-use Rattle.keystream.specs.declared.StartAnswer.{StartAnswer}
-use Rattle.keystream.specs.Starts.{start_number}
-use Rattle.keystream.proofs.Tight.{start-tight}
+use Rattle.zuc.specs.Reading.{cells_from}
 use Rattle.mac_registers.specs.declared.TagState.{TagState}
-use Rattle.standard.specs.States.{Stored}
+use Rattle.standard.specs.States.{Counted, Stored, from_start, zero_stored, zeros}
 use Rattle.mac_registers.specs.Stored.{stored_of}
 use Rattle.mac.proofs.zuc128.new.Reads as zuc128-new
 use Rattle.mac.proofs.eia3.new.Reads as eia3-new
@@ -30,23 +25,10 @@ use Rattle.mac.proofs.zuc128.compute.Reads as zuc128-compute
 use Rattle.mac.proofs.eia3.compute.Reads as eia3-compute
 use Rattle.mac.proofs.eia3.compute_strict.Reads as eia3-compute-strict
 use Rattle.mac.proofs.zuc256.compute.Reads as zuc256-compute
-use Rattle.mac.specs.declared.Finish128.{Finish128}
-use Rattle.mac.specs.declared.Finish256.{Finish256}
-use Rattle.mac.specs.declared.Once128.{Once128}
-use Rattle.mac.specs.declared.Once128.TheVariants as once-128
-use Rattle.mac.specs.declared.Once256.{Once256}
-use Rattle.mac.specs.declared.Once256.TheVariants as once-256
-use Rattle.mac.specs.declared.Start128.{Start128}
-use Rattle.mac.specs.declared.Start256.{Start256}
-use Rattle.mac.specs.declared.Tag128.{Tag128}
-use Rattle.mac.specs.declared.Tag128.TheVariants as tag-128
-use Rattle.mac.specs.declared.Tag256.{Tag256}
-use Rattle.mac.specs.declared.Tag256.TheVariants as tag-256
-use Rattle.mac.specs.declared.Update128.{Update128}
-use Rattle.mac.specs.declared.Update256.{Update256}
-use Rattle.mac.specs.declared.UpdateAnswer.{UpdateAnswer}
-use Rattle.mac.specs.declared.UpdateAnswer.TheVariants as update-answer
-use Rattle.mac.specs.Calls.{Closing, Once, Outcome, finish_told-128, finish_told-256, once_told-128, once_told-256, start_told-128, start_told-256, tag_list, tag_number-128, tag_number-256, tag_word, update_number, update_told-128, update_told-256}
+use Rattle.mac.specs.declared.Mac128.{Mac128}
+use Rattle.mac.specs.declared.Mac256.{Mac256}
+use Rattle.mac.specs.Reading.{tagged_of, tagged_of-128, tagged_of-256}
+use Rattle.mac.specs.Calls.{Closing, Once, Outcome, finish_told, no_words, once_told, tag_told, update_told}
 
 -- a struct is known by its reading
 state-back : {s s' : TagState} → stored_of s ≡ stored_of s' → s ≡ s'
@@ -60,206 +42,129 @@ state-back {s} {s'} e =
       width = (e i).width;
     }
 
--- an answer is known by what is told of it
-start-answer : (z : Zuc) (a b : StartAnswer) → start_number a ≡ start_number b → a ≡ b
-start-answer z a b e =
-    let g : Generator = record { z = z; count = 0 } in
-    ap (λ x. x.answer) (start-tight (record { answer = a; state = g }) (record { answer = b; state = g }) (λ i. record { number = e i; state = counted_of g }))
+counted-back : {s s' : TagState} {n n' : ℕ} → tagged_of s n ≡ tagged_of s' n' → ◌≡◌ {A = TagState × ℕ} (s, n) (s', n')
+counted-back e = λ i. (state-back (λ j. (e j).held) i, (e i).count)
 
-update_answer : ℕ → UpdateAnswer
-update_answer n = if eqb n accepted then update-answer.Done else if eqb n bad_state then update-answer.BadState else update-answer.Spent
+mac-128 : (m m' : Mac128) → tagged_of-128 m ≡ tagged_of-128 m' → m ≡ m'
+mac-128 m m' e = λ i. let x = counted-back e i in record { state = x.0; count = x.1 }
 
-update-back : (a : UpdateAnswer) → update_answer (update_number a) ≡ a
-unfolding update_answer
-update-back update-answer.Done = refl
-update-back update-answer.BadState = refl
-update-back update-answer.Spent = refl
+mac-256 : (m m' : Mac256) → tagged_of-256 m ≡ tagged_of-256 m' → m ≡ m'
+mac-256 m m' e = λ i. let x = counted-back e i in record { state = x.0; count = x.1 }
 
-tag_answer-128 : ℕ → ℕ → Tag128
-tag_answer-128 n x =
-    if eqb n accepted then tag-128.Tag x
-    else if eqb n bad_state then tag-128.BadState
-    else if eqb n bad_bits then tag-128.BadBits
-    else tag-128.Spent
+-- what is told of a start tells what is returned: a refused one is read as zeros
+no_state : TagState
+no_state =
+    record { g = record { s = replicate 16 0; r1 = 0; r2 = 0; start = 0 }; key = replicate 4 0; tag = replicate 2 0; rem = replicate 16 0; cnt = 0; width = 0 }
 
-tag-back-128 : (a : Tag128) → tag_answer-128 (tag_number-128 a) (tag_word a) ≡ a
-unfolding tag_answer-128
-tag-back-128 (tag-128.Tag x) = refl
-tag-back-128 tag-128.BadState = refl
-tag-back-128 tag-128.BadBits = refl
-tag-back-128 tag-128.Spent = refl
+module _ {Mac : Type 0} (read : Mac → Counted Stored) (none : Mac) (zero : read none ≡ from_start zero_stored) (back : (m m' : Mac) → read m ≡ read m' → m ≡ m') where
+  told_is : (r : Result Mac Refusal) → tag_told read r ≡ record { number = answer_number r; state = read (result_unwrap_or r none) }
+  told_is (Ok mac) = refl
+  told_is (Err refusal) = λ i. record { number = refusal_number refusal; state = sym zero i }
 
-tag_answer-256 : ℕ → List ℕ → Tag256
-tag_answer-256 n x =
-    if eqb n accepted then tag-256.Tag (x ⟨ 0 ⟩) (x ⟨ 1 ⟩)
-    else if eqb n bad_state then tag-256.BadState
-    else if eqb n bad_bits then tag-256.BadBits
-    else tag-256.Spent
+  start-tight : (r r' : Result Mac Refusal) → tag_told read r ≡ tag_told read r' → r ≡ r'
+  start-tight r r' e =
+      let told = sym (told_is r) ∙ e ∙ told_is r' in
+      answer-once none r r' (ap (λ (o : Outcome). o.number) told) (back _ _ (ap (λ (o : Outcome). o.state) told))
 
-tag-back-256 : (a : Tag256) → tag_answer-256 (tag_number-256 a) (tag_list a) ≡ a
-unfolding tag_answer-256
-tag-back-256 (tag-256.Tag x y) = refl
-tag-back-256 tag-256.BadState = refl
-tag-back-256 tag-256.BadBits = refl
-tag-back-256 tag-256.Spent = refl
+  -- an update, a closing
+  update-tight : (r r' : Result ⊤ Refusal) (m m' : Mac) → update_told r (read m) ≡ update_told r' (read m') → ◌≡◌ {A = Result ⊤ Refusal × Mac} (r, m) (r', m')
+  update-tight r r' m m' e =
+      λ i. (answer-once tt r r' (ap (λ (o : Outcome). o.number) e) refl i, back m m' (ap (λ (o : Outcome). o.state) e) i)
 
-once_answer-128 : ℕ → ℕ → Once128
-once_answer-128 n x =
-    if eqb n accepted then once-128.Tag x
-    else if eqb n bad_key then once-128.BadKey
-    else if eqb n bad_iv then once-128.BadIv
-    else if eqb n bad_field then once-128.BadField
-    else if eqb n bad_bits then once-128.BadBits
-    else once-128.Spent
+  finish-tight : {Tag : Type 0} (untold : Tag) (r r' : Result Tag Refusal) (m m' : Mac) → finish_told untold r (read m) ≡ finish_told untold r' (read m')
+      → ◌≡◌ {A = Result Tag Refusal × Mac} (r, m) (r', m')
+  finish-tight {Tag} untold r r' m m' e =
+      λ i. (
+        answer-once untold r r' (ap (λ (o : Closing Tag). o.number) e) (ap (λ (o : Closing Tag). o.tag) e) i,
+        back m m' (ap (λ (o : Closing Tag). o.state) e) i,
+      )
 
-once-back-128 : (a : Once128) → once_answer-128 (once_told-128 a).number (once_told-128 a).tag ≡ a
-unfolding once_answer-128
-once-back-128 (once-128.Tag x) = refl
-once-back-128 once-128.BadKey = refl
-once-back-128 once-128.BadIv = refl
-once-back-128 once-128.BadField = refl
-once-back-128 once-128.BadBits = refl
-once-back-128 once-128.Spent = refl
+once-tight : {Tag : Type 0} (none : Tag) (r r' : Result Tag Refusal) → once_told none r ≡ once_told none r' → r ≡ r'
+once-tight {Tag} none r r' e = answer-once none r r' (ap (λ (o : Once Tag). o.number) e) (ap (λ (o : Once Tag). o.tag) e)
 
-once_answer-256 : ℕ → List ℕ → Once256
-once_answer-256 n x =
-    if eqb n accepted then once-256.Tag (x ⟨ 0 ⟩) (x ⟨ 1 ⟩)
-    else if eqb n bad_width then once-256.BadWidth
-    else if eqb n bad_key then once-256.BadKey
-    else if eqb n bad_iv then once-256.BadIv
-    else if eqb n bad_bits then once-256.BadBits
-    else once-256.Spent
+-- of either type
+abbrev none-128 : Mac128
+none-128 = record { state = no_state; count = 0 }
 
-once-back-256 : (a : Once256) → once_answer-256 (once_told-256 a).number (once_told-256 a).tag ≡ a
-unfolding once_answer-256
-once-back-256 (once-256.Tag x y) = refl
-once-back-256 once-256.BadWidth = refl
-once-back-256 once-256.BadKey = refl
-once-back-256 once-256.BadIv = refl
-once-back-256 once-256.BadBits = refl
-once-back-256 once-256.Spent = refl
+abbrev none-256 : Mac256
+none-256 = record { state = no_state; count = 0 }
 
--- what is told tells what is returned
-start-128 : (r r' : Start128) → start_told-128 r ≡ start_told-128 r' → r ≡ r'
-start-128 r r' e =
-    λ i. record {
-      answer = start-answer r.mac.state.g r.answer r'.answer (λ j. (e j).number) i;
-      mac = record { state = state-back (λ j. (e j).state.held) i; count = (e i).state.count };
-    }
-
-start-256 : (r r' : Start256) → start_told-256 r ≡ start_told-256 r' → r ≡ r'
-start-256 r r' e =
-    λ i. record {
-      answer = start-answer r.mac.state.g r.answer r'.answer (λ j. (e j).number) i;
-      mac = record { state = state-back (λ j. (e j).state.held) i; count = (e i).state.count };
-    }
-
-update-128 : (r r' : Update128) → update_told-128 r ≡ update_told-128 r' → r ≡ r'
-update-128 r r' e =
-    λ i. record {
-      answer = (sym (update-back r.answer) ∙ ap (λ (o : Outcome). update_answer o.number) e ∙ update-back r'.answer) i;
-      mac = record { state = state-back (λ j. (e j).state.held) i; count = (e i).state.count };
-    }
-
-update-256 : (r r' : Update256) → update_told-256 r ≡ update_told-256 r' → r ≡ r'
-update-256 r r' e =
-    λ i. record {
-      answer = (sym (update-back r.answer) ∙ ap (λ (o : Outcome). update_answer o.number) e ∙ update-back r'.answer) i;
-      mac = record { state = state-back (λ j. (e j).state.held) i; count = (e i).state.count };
-    }
-
-finish-128 : (r r' : Finish128) → finish_told-128 r ≡ finish_told-128 r' → r ≡ r'
-finish-128 r r' e =
-    λ i. record {
-      answer = (sym (tag-back-128 r.answer) ∙ ap (λ (o : Closing ℕ). tag_answer-128 o.number o.tag) e ∙ tag-back-128 r'.answer) i;
-      mac = record { state = state-back (λ j. (e j).state.held) i; count = (e i).state.count };
-    }
-
-finish-256 : (r r' : Finish256) → finish_told-256 r ≡ finish_told-256 r' → r ≡ r'
-finish-256 r r' e =
-    λ i. record {
-      answer = (sym (tag-back-256 r.answer) ∙ ap (λ (o : Closing (List ℕ)). tag_answer-256 o.number o.tag) e ∙ tag-back-256 r'.answer) i;
-      mac = record { state = state-back (λ j. (e j).state.held) i; count = (e i).state.count };
-    }
-
-once-tight-128 : (r r' : Once128) → once_told-128 r ≡ once_told-128 r' → r ≡ r'
-once-tight-128 r r' e = sym (once-back-128 r) ∙ ap (λ (o : Once ℕ). once_answer-128 o.number o.tag) e ∙ once-back-128 r'
-
-once-tight-256 : (r r' : Once256) → once_told-256 r ≡ once_told-256 r' → r ≡ r'
-once-tight-256 r r' e = sym (once-back-256 r) ∙ ap (λ (o : Once (List ℕ)). once_answer-256 o.number o.tag) e ∙ once-back-256 r'
+zero-state : tagged_of no_state 0 ≡ from_start zero_stored
+unfolding no_state zero_stored zeros cells_from
+zero-state = refl
 
 -- starts
 pub tight-zuc128-new : Tight zuc128-new.Post (λ κs r s. r)
-tight-zuc128-new κs a r r' s s' p q = start-128 r r' (p ∙ sym q)
+tight-zuc128-new κs a r r' s s' p q = start-tight tagged_of-128 none-128 zero-state mac-128 r r' (p ∙ sym q)
 
 pub asks-nothing-zuc128-new : AsksNothing zuc128-new.Pre
 asks-nothing-zuc128-new κs a = tt
 
 pub tight-eia3-new : Tight eia3-new.Post (λ κs r s. r)
-tight-eia3-new κs a r r' s s' p q = start-128 r r' (p ∙ sym q)
+tight-eia3-new κs a r r' s s' p q = start-tight tagged_of-128 none-128 zero-state mac-128 r r' (p ∙ sym q)
 
 pub asks-nothing-eia3-new : AsksNothing eia3-new.Pre
 asks-nothing-eia3-new κs a = tt
 
 pub tight-eia3-new-strict : Tight eia3-new-strict.Post (λ κs r s. r)
-tight-eia3-new-strict κs a r r' s s' p q = start-128 r r' (p ∙ sym q)
+tight-eia3-new-strict κs a r r' s s' p q = start-tight tagged_of-128 none-128 zero-state mac-128 r r' (p ∙ sym q)
 
 pub asks-nothing-eia3-new-strict : AsksNothing eia3-new-strict.Pre
 asks-nothing-eia3-new-strict κs a = tt
 
 pub tight-zuc256-new : Tight zuc256-new.Post (λ κs r s. r)
-tight-zuc256-new κs a r r' s s' p q = start-256 r r' (p ∙ sym q)
+tight-zuc256-new κs a r r' s s' p q = start-tight tagged_of-256 none-256 zero-state mac-256 r r' (p ∙ sym q)
 
 pub asks-nothing-zuc256-new : AsksNothing zuc256-new.Pre
 asks-nothing-zuc256-new κs a = tt
 
 -- updates
-pub tight-zuc128-update : Tight zuc128-update.Post (λ κs r s. r)
-tight-zuc128-update κs a r r' s s' p q = update-128 r r' (p ∙ sym q)
+pub tight-zuc128-update : Tight {Seen = Result ⊤ Refusal × Mac128} zuc128-update.Post (λ κs r s. (r, s.0.now))
+tight-zuc128-update κs a r r' s s' p q = update-tight tagged_of-128 none-128 zero-state mac-128 r r' s.0.now s'.0.now (p ∙ sym q)
 
 pub asks-nothing-zuc128-update : AsksNothing zuc128-update.Pre
 asks-nothing-zuc128-update κs a = tt
 
-pub tight-zuc256-update : Tight zuc256-update.Post (λ κs r s. r)
-tight-zuc256-update κs a r r' s s' p q = update-256 r r' (p ∙ sym q)
+pub tight-zuc256-update : Tight {Seen = Result ⊤ Refusal × Mac256} zuc256-update.Post (λ κs r s. (r, s.0.now))
+tight-zuc256-update κs a r r' s s' p q = update-tight tagged_of-256 none-256 zero-state mac-256 r r' s.0.now s'.0.now (p ∙ sym q)
 
 pub asks-nothing-zuc256-update : AsksNothing zuc256-update.Pre
 asks-nothing-zuc256-update κs a = tt
 
 -- closings
-pub tight-zuc128-finish : Tight zuc128-finish.Post (λ κs r s. r)
-tight-zuc128-finish κs a r r' s s' p q = finish-128 r r' (p ∙ sym q)
+pub tight-zuc128-finish : Tight {Seen = Result ℕ Refusal × Mac128} zuc128-finish.Post (λ κs r s. (r, s.0.now))
+tight-zuc128-finish κs a r r' s s' p q = finish-tight tagged_of-128 none-128 zero-state mac-128 0 r r' s.0.now s'.0.now (p ∙ sym q)
 
 pub asks-nothing-zuc128-finish : AsksNothing zuc128-finish.Pre
 asks-nothing-zuc128-finish κs a = tt
 
-pub tight-zuc256-finish : Tight zuc256-finish.Post (λ κs r s. r)
-tight-zuc256-finish κs a r r' s s' p q = finish-256 r r' (p ∙ sym q)
+pub tight-zuc256-finish : Tight {Seen = Result (List ℕ) Refusal × Mac256} zuc256-finish.Post (λ κs r s. (r, s.0.now))
+tight-zuc256-finish κs a r r' s s' p q = finish-tight tagged_of-256 none-256 zero-state mac-256 no_words r r' s.0.now s'.0.now (p ∙ sym q)
 
 pub asks-nothing-zuc256-finish : AsksNothing zuc256-finish.Pre
 asks-nothing-zuc256-finish κs a = tt
 
 -- one-shots
 pub tight-zuc128-compute : Tight zuc128-compute.Post (λ κs r s. r)
-tight-zuc128-compute κs a r r' s s' p q = once-tight-128 r r' (p ∙ sym q)
+tight-zuc128-compute κs a r r' s s' p q = once-tight 0 r r' (p ∙ sym q)
 
 pub asks-nothing-zuc128-compute : AsksNothing zuc128-compute.Pre
 asks-nothing-zuc128-compute κs a = tt
 
 pub tight-eia3-compute : Tight eia3-compute.Post (λ κs r s. r)
-tight-eia3-compute κs a r r' s s' p q = once-tight-128 r r' (p ∙ sym q)
+tight-eia3-compute κs a r r' s s' p q = once-tight 0 r r' (p ∙ sym q)
 
 pub asks-nothing-eia3-compute : AsksNothing eia3-compute.Pre
 asks-nothing-eia3-compute κs a = tt
 
 pub tight-eia3-compute-strict : Tight eia3-compute-strict.Post (λ κs r s. r)
-tight-eia3-compute-strict κs a r r' s s' p q = once-tight-128 r r' (p ∙ sym q)
+tight-eia3-compute-strict κs a r r' s s' p q = once-tight 0 r r' (p ∙ sym q)
 
 pub asks-nothing-eia3-compute-strict : AsksNothing eia3-compute-strict.Pre
 asks-nothing-eia3-compute-strict κs a = tt
 
 pub tight-zuc256-compute : Tight zuc256-compute.Post (λ κs r s. r)
-tight-zuc256-compute κs a r r' s s' p q = once-tight-256 r r' (p ∙ sym q)
+tight-zuc256-compute κs a r r' s s' p q = once-tight no_words r r' (p ∙ sym q)
 
 pub asks-nothing-zuc256-compute : AsksNothing zuc256-compute.Pre
 asks-nothing-zuc256-compute κs a = tt

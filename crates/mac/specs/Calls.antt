@@ -1,43 +1,21 @@
 -- What the calls of tags answer: the standard's tests in their order, then the tag. Updates and closings answer by the running rule
 -- (mac_registers/specs/Tagging.antt), which the theorems rule-… of proofs/Theorems.antt make unnecessary to believe.
-use Rattle.std.specs.Prelude.{Bool, List, [], ◌∷◌, ℕ, ◌+◌, ◌*◌, length}
+use Rattle.std.specs.Prelude.{Bool, List, [], ◌∷◌, ℕ, ◌+◌, ◌*◌, Result, Ok, Err, ⊤, length}
 use Rattle.standard.specs.Generator.{State, keystream, started}
 use Rattle.standard.specs.Integrity.{IV-EIA3, bytes_iv-EIA3, drawn_after-EIA3, drawn_after-ZUC256, drawn_by_tag-EIA3, drawn_by_tag-ZUC256, tag-EIA3, tag-ZUC256, words_to_close-EIA3, words_to_close-ZUC256, words_to_update}
 use Rattle.standard.specs.Loading.{load₁₂₈, load₂₅₆, row_of}
-use Rattle.standard.specs.Refusals.{accepted, bad_bits, bad_field, bad_iv, bad_key, bad_state, bad_width, bits_test, field_test, iv_test, key_test, limit_test, spent, state_test, tested, width_test}
+use Rattle.standard.specs.Refusals.{accepted, bits_test, field_test, iv_test, key_test, limit_test, state_test, tested, width_test}
 use Rattle.standard.specs.States.{Counted, Stored, formed, formed-128, from_start, from_zero, tag_formed, zero_stored}
-use Rattle.keystream.specs.Starts.{start_number}
+use Rattle.refusals.specs.declared.Refusal.{Refusal}
+use Rattle.refusals.specs.Numbers.{answer_number, refusal_number}
+use Rattle.std.specs.Result.{result_unwrap_or}
 use Rattle.mac_registers.specs.Stored.{packed, tag_words, tagging_of}
 use Rattle.mac_registers.specs.Tagging.{begun-EIA3, begun-ZUC256, closed-EIA3, closed-ZUC256, updated}
-use Rattle.mac.specs.declared.Finish128.{Finish128}
-use Rattle.mac.specs.declared.Finish256.{Finish256}
-use Rattle.mac.specs.declared.Once128.{Once128}
-use Rattle.mac.specs.declared.Once128.TheVariants as once-128
-use Rattle.mac.specs.declared.Once256.{Once256}
-use Rattle.mac.specs.declared.Once256.TheVariants as once-256
-use Rattle.mac.specs.declared.Start128.{Start128}
-use Rattle.mac.specs.declared.Start256.{Start256}
-use Rattle.mac.specs.declared.Tag128.{Tag128}
-use Rattle.mac.specs.declared.Tag128.TheVariants as tag-128
-use Rattle.mac.specs.declared.Tag256.{Tag256}
-use Rattle.mac.specs.declared.Tag256.TheVariants as tag-256
-use Rattle.mac.specs.declared.Update.{Update}
-use Rattle.mac.specs.declared.Update128.{Update128}
-use Rattle.mac.specs.declared.Update256.{Update256}
-use Rattle.mac.specs.declared.UpdateAnswer.{UpdateAnswer}
-use Rattle.mac.specs.declared.UpdateAnswer.TheVariants.{Done, BadState, Spent}
-use Rattle.mac.specs.Reading.{tagged_of, tagged_of-128, tagged_of-256}
 
 -- a start and an update give a number and a state
 pub record Outcome : Type 0 where
   pub number : ℕ
   pub state : Counted Stored
-
-abbrev pub start_told-128 : Start128 → Outcome
-start_told-128 r = record { number = start_number r.answer; state = tagged_of-128 r.mac }
-
-abbrev pub start_told-256 : Start256 → Outcome
-start_told-256 r = record { number = start_number r.answer; state = tagged_of-256 r.mac }
 
 -- an accepted start hands back a tag state begun over what was loaded, and the words drawn for it; a refused one zeros
 abbrev pub begun_tag-128 : State → Outcome
@@ -53,6 +31,11 @@ begun_tag-256 width loaded =
 
 abbrev pub refused_tag : ℕ → Outcome
 refused_tag number = record { number = number; state = from_start zero_stored }
+
+-- whichever of the two types of tag states it hands back, by how that is read
+abbrev pub tag_told : {Mac : Type 0} → (Mac → Counted Stored) → Result Mac Refusal → Outcome
+tag_told read (Ok mac) = record { number = accepted; state = read mac }
+tag_told read (Err refusal) = refused_tag (refusal_number refusal)
 
 unfoldable pub start_outcome-128 : List ℕ → List ℕ → Outcome
 start_outcome-128 key iv = tested (key_test 16 key ∷ iv_test 16 iv ∷ []) refused_tag (begun_tag-128 (load₁₂₈ key iv))
@@ -70,19 +53,9 @@ unfoldable pub start_outcome-256 : ℕ → List ℕ → List ℕ → Outcome
 start_outcome-256 width key iv =
     tested (width_test width ∷ key_test 32 key ∷ iv_test 23 iv ∷ []) refused_tag (begun_tag-256 width (load₂₅₆ (row_of width) key iv))
 
-abbrev pub update_number : UpdateAnswer → ℕ
-update_number Done = accepted
-update_number BadState = bad_state
-update_number Spent = spent
-
-abbrev pub update_told : Update → Outcome
-update_told r = record { number = update_number r.answer; state = tagged_of r.state r.count }
-
-abbrev pub update_told-128 : Update128 → Outcome
-update_told-128 r = record { number = update_number r.answer; state = tagged_of-128 r.mac }
-
-abbrev pub update_told-256 : Update256 → Outcome
-update_told-256 r = record { number = update_number r.answer; state = tagged_of-256 r.mac }
+-- an update's answer, and the state after it
+abbrev pub update_told : Result ⊤ Refusal → Counted Stored → Outcome
+update_told r s = record { number = answer_number r; state = s }
 
 -- the words that an update draws, and the state after it: the bytes are taken in, one after the other
 abbrev pub update_words : Stored → List ℕ → ℕ
@@ -110,20 +83,9 @@ pub record Closing (Tag : Type 0) : Type 0 where
   pub tag : Tag
   pub state : Counted Stored
 
-abbrev pub tag_number-128 : Tag128 → ℕ
-tag_number-128 (tag-128.Tag x) = accepted
-tag_number-128 tag-128.BadState = bad_state
-tag_number-128 tag-128.BadBits = bad_bits
-tag_number-128 tag-128.Spent = spent
-
-abbrev pub tag_word : Tag128 → ℕ
-tag_word (tag-128.Tag x) = x
-tag_word tag-128.BadState = 0
-tag_word tag-128.BadBits = 0
-tag_word tag-128.Spent = 0
-
-abbrev pub finish_told-128 : Finish128 → Closing ℕ
-finish_told-128 r = record { number = tag_number-128 r.answer; tag = tag_word r.answer; state = tagged_of-128 r.mac }
+-- a closing's answer, with what stands for no tag, and the state after it
+abbrev pub finish_told : {Tag : Type 0} → Tag → Result Tag Refusal → Counted Stored → Closing Tag
+finish_told none r s = record { number = answer_number r; tag = result_unwrap_or r none; state = s }
 
 -- a refusal hands back a tag of zero and the caller's state; else the tag, and a state of zeros
 abbrev pub refused_closing : {Tag : Type 0} → Tag → Counted Stored → ℕ → Closing Tag
@@ -142,23 +104,8 @@ unfoldable pub finish_outcome-128 : Counted Stored → List ℕ → ℕ → Clos
 finish_outcome-128 s tail l =
     closing 0 (tag_formed formed-128 s) s (close_words-128 s.held l) tail l (closed-EIA3 (tagging_of s.held) tail l)
 
-abbrev pub tag_number-256 : Tag256 → ℕ
-tag_number-256 (tag-256.Tag x y) = accepted
-tag_number-256 tag-256.BadState = bad_state
-tag_number-256 tag-256.BadBits = bad_bits
-tag_number-256 tag-256.Spent = spent
-
 abbrev pub no_words : List ℕ
 no_words = 0 ∷ 0 ∷ []
-
-abbrev pub tag_list : Tag256 → List ℕ
-tag_list (tag-256.Tag x y) = x ∷ y ∷ []
-tag_list tag-256.BadState = no_words
-tag_list tag-256.BadBits = no_words
-tag_list tag-256.Spent = no_words
-
-abbrev pub finish_told-256 : Finish256 → Closing (List ℕ)
-finish_told-256 r = record { number = tag_number-256 r.answer; tag = tag_list r.answer; state = tagged_of-256 r.mac }
 
 abbrev pub close_words-256 : Stored → ℕ → ℕ
 close_words-256 s l = words_to_close-ZUC256 (s.width * 8) s.cnt l
@@ -176,13 +123,8 @@ pub record Once (Tag : Type 0) : Type 0 where
 abbrev pub refused_once : {Tag : Type 0} → Tag → ℕ → Once Tag
 refused_once none number = record { number = number; tag = none }
 
-abbrev pub once_told-128 : Once128 → Once ℕ
-once_told-128 (once-128.Tag x) = record { number = accepted; tag = x }
-once_told-128 once-128.BadKey = refused_once 0 bad_key
-once_told-128 once-128.BadIv = refused_once 0 bad_iv
-once_told-128 once-128.BadField = refused_once 0 bad_field
-once_told-128 once-128.BadBits = refused_once 0 bad_bits
-once_told-128 once-128.Spent = refused_once 0 spent
+abbrev pub once_told : {Tag : Type 0} → Tag → Result Tag Refusal → Once Tag
+once_told none r = record { number = answer_number r; tag = result_unwrap_or r none }
 
 -- the standard's tag of the message over the keystream of what was loaded
 unfoldable pub once_outcome-128 : List ℕ → List ℕ → List ℕ → ℕ → Once ℕ
@@ -200,14 +142,6 @@ unfoldable pub strict_once_outcome-EIA3 : ℕ → ℕ → ℕ → List ℕ → L
 strict_once_outcome-EIA3 count bearer direction key message l =
     tested (key_test 16 key ∷ field_test bearer direction ∷ bits_test l message ∷ limit_test 0 (drawn_by_tag-EIA3 l) ∷ []) (refused_once 0)
     (record { number = accepted; tag = tag-EIA3 (keystream (load₁₂₈ key (bytes_iv-EIA3 count bearer direction))) message l })
-
-abbrev pub once_told-256 : Once256 → Once (List ℕ)
-once_told-256 (once-256.Tag x y) = record { number = accepted; tag = x ∷ y ∷ [] }
-once_told-256 once-256.BadWidth = refused_once no_words bad_width
-once_told-256 once-256.BadKey = refused_once no_words bad_key
-once_told-256 once-256.BadIv = refused_once no_words bad_iv
-once_told-256 once-256.BadBits = refused_once no_words bad_bits
-once_told-256 once-256.Spent = refused_once no_words spent
 
 unfoldable pub once_outcome-256 : ℕ → List ℕ → List ℕ → List ℕ → ℕ → Once (List ℕ)
 once_outcome-256 width key iv message l =

@@ -1,10 +1,11 @@
 // 128-EIA3: the IV, the start and the one-shot, and their strict forms. The rest is ZUC-128's.
 ghost use Rattle.std.specs.Prelude.{◌≡◌};
-ghost use Rattle.mac.specs.Calls.{once_outcome-EIA3, once_told-128, start_outcome-EIA3, start_told-128, strict_once_outcome-EIA3, strict_start_outcome-EIA3};
+ghost use Rattle.mac.specs.Calls.{once_outcome-EIA3, once_told, start_outcome-EIA3, strict_once_outcome-EIA3, strict_start_outcome-EIA3, tag_told};
+ghost use Rattle.mac.specs.Reading.{tagged_of-128};
 ghost use Rattle.standard.specs.Integrity.{IV-EIA3};
 
-use super::{Once128, Start128, begin_from, refused_128};
-use keystream::StartAnswer;
+use super::{Mac128, begin_from};
+use refusals::Refusal;
 use words::{byte_of, fields_fit};
 
 // The IV. A bearer keeps its low 5 bits, a direction its low bit.
@@ -38,22 +39,22 @@ fn iv(count: u32, bearer: u8, direction: u8) -> [u8; 16]
 }
 
 // A tag state, or BadKey for a key that is not 16 bytes.
-pub fn new(count: u32, bearer: u8, direction: u8, key: &[u8]) -> Start128
-    ensures { start_told-128 result ≡ start_outcome-EIA3 count bearer direction key.now }
+pub fn new(count: u32, bearer: u8, direction: u8, key: &[u8]) -> Result<Mac128, Refusal>
+    ensures { tag_told tagged_of-128 result ≡ start_outcome-EIA3 count bearer direction key.now }
 {
     let v = iv(count, bearer, direction);
     begin_from(keystream::zuc128::new(key, &v))
 }
 
 // The same of a bearer and a direction that are taken as given: BadField, after BadKey, for a bearer above 31 or a direction above 1.
-pub fn new_strict(count: u32, bearer: u8, direction: u8, key: &[u8]) -> Start128
-    ensures { start_told-128 result ≡ strict_start_outcome-EIA3 count bearer direction key.now }
+pub fn new_strict(count: u32, bearer: u8, direction: u8, key: &[u8]) -> Result<Mac128, Refusal>
+    ensures { tag_told tagged_of-128 result ≡ strict_start_outcome-EIA3 count bearer direction key.now }
 {
     if key.len() != 16 {
-        return refused_128(StartAnswer::BadKey);
+        return Err(Refusal::BadKey);
     }
     if !fields_fit(bearer, direction) {
-        return refused_128(StartAnswer::BadField);
+        return Err(Refusal::BadField);
     }
     new(count, bearer, direction, key)
 }
@@ -66,8 +67,8 @@ pub fn compute(
     key: &[u8],
     message: &[u8],
     l: usize,
-) -> Once128
-    ensures { once_told-128 result ≡ once_outcome-EIA3 count bearer direction key.now message.now l }
+) -> Result<u32, Refusal>
+    ensures { once_told 0 result ≡ once_outcome-EIA3 count bearer direction key.now message.now l }
 {
     let v = iv(count, bearer, direction);
     super::zuc128::compute(key, &v, message, l)
@@ -81,14 +82,14 @@ pub fn compute_strict(
     key: &[u8],
     message: &[u8],
     l: usize,
-) -> Once128
-    ensures { once_told-128 result ≡ strict_once_outcome-EIA3 count bearer direction key.now message.now l }
+) -> Result<u32, Refusal>
+    ensures { once_told 0 result ≡ strict_once_outcome-EIA3 count bearer direction key.now message.now l }
 {
     if key.len() != 16 {
-        return Once128::BadKey;
+        return Err(Refusal::BadKey);
     }
     if !fields_fit(bearer, direction) {
-        return Once128::BadField;
+        return Err(Refusal::BadField);
     }
     compute(count, bearer, direction, key, message, l)
 }

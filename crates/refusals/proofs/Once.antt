@@ -1,12 +1,13 @@
--- What is told of an answer tells it: its number and its value, by the refusal that a number stands for.
+-- What is told of an answer tells it: its number and its value, by the refusal that a number stands for. And no refusal's number is 0.
 use lib.Dec.{eqb}
+use mathlib.Core.Bool.{false}
 use mathlib.Core.Path.{◌≡◌, ◌∙◌, ap₂, refl, sym}
 use Prim.Native.Nat.{ℕ}
 use Rattle.std.specs.Prelude.{Result, Ok, Err, if◌then◌else◌}
 use Rattle.std.specs.Result.{result_unwrap_or}
 use Rattle.refusals.specs.declared.Refusal.{Refusal}
 use Rattle.refusals.specs.declared.Refusal.TheVariants.{BadWidth, BadKey, BadIv, BadState, BadBits, BadFrame, BadLength, BadField, BadBody, BadTag, BadReuse, BadAge, BadLink, Spent}
-use Rattle.refusals.specs.Numbers.{answer_number}
+use Rattle.refusals.specs.Numbers.{answer_number, refusal_number}
 
 refusal_of : ℕ → Refusal
 refusal_of n =
@@ -35,6 +36,23 @@ answer-back none (Err BadReuse) = refl
 answer-back none (Err BadAge) = refl
 answer-back none (Err BadLink) = refl
 answer-back none (Err Spent) = refl
+
+-- no refusal has the number of an accepted call
+pub refused-number : (refusal : Refusal) → eqb (refusal_number refusal) 0 ≡ false
+refused-number BadWidth = refl
+refused-number BadKey = refl
+refused-number BadIv = refl
+refused-number BadState = refl
+refused-number BadBits = refl
+refused-number BadFrame = refl
+refused-number BadLength = refl
+refused-number BadField = refl
+refused-number BadBody = refl
+refused-number BadTag = refl
+refused-number BadReuse = refl
+refused-number BadAge = refl
+refused-number BadLink = refl
+refused-number Spent = refl
 
 -- whatever stands for no value
 pub answer-once : {A : Type 0} (none : A) (r r' : Result A Refusal)

@@ -6,7 +6,7 @@ use Prim.Native.Nat.{ℕ, ◌+◌, ◌-◌, ◌^◌, ◌<◌, ◌≤◌}
 use native.Mathlib.Omega.{arith}
 use lib.Dec.{eqb}
 use lib.ListN.{length}
-use borrow.Author.Tests.{eq-eqb, le-leb, lt-leb, ne_eqb, not-false, not-true}
+use borrow.Author.Tests.{eq-eqb, le-leb, lt-leb, ne_eqb}
 use Rattle.standard.specs.Frame.{Fields, body_fits, body_in, fields_in, tag_in, tag_over, two_at}
 use Rattle.standard.specs.Integrity.{drawn_by_tag-EIA3}
 use Rattle.standard.specs.Notation.{◌⟨◌⟩}
@@ -31,53 +31,50 @@ opened CK IK frame c i l v t e =
       eq-eqb (two_at frame 1) (length frame - 3) t,
     ) e
 
-pub returns-then-ck-ne16 : goal.returns-then-ck-ne16
+pub returns-then-ck-ne16-clause-number : goal.returns-then-ck-ne16-clause-number
 unfolding tested
-returns-then-ck-ne16 c = rw (ne_eqb (length c.args.ck.now) 16 c.if-ck-ne16.true) refl
+returns-then-ck-ne16-clause-number c = rw (ne_eqb (length c.args.ck.now) 16 c.if-ck-ne16.true) refl
 
-pub returns-then-ik-ne16 : goal.returns-then-ik-ne16
+pub returns-then-ik-ne16-clause-number : goal.returns-then-ik-ne16-clause-number
 unfolding tested
-returns-then-ik-ne16 c =
+returns-then-ik-ne16-clause-number c =
     rw (eq-eqb (length c.args.ck.now) 16 (omega arith), ne_eqb (length c.args.ik.now) 16 c.if-ik-ne16.true) refl
 
-pub returns-then-n-lt17 : goal.returns-then-n-lt17
+pub returns-then-n-lt17-clause-number : goal.returns-then-n-lt17-clause-number
 unfolding tested
-returns-then-n-lt17 c =
+returns-then-n-lt17-clause-number c =
     rw (eq-eqb (length c.args.ck.now) 16 (omega arith), eq-eqb (length c.args.ik.now) 16 (omega arith), lt-leb 17 (length c.args.frame.now) (omega arith)) refl
 
-pub returns-then-frame-ne1 : goal.returns-then-frame-ne1
+pub returns-then-frame-ne1-clause-number : goal.returns-then-frame-ne1-clause-number
 unfolding tested
-returns-then-frame-ne1 c =
+returns-then-frame-ne1-clause-number c =
     rw (eq-eqb (length c.args.ck.now) 16 (omega arith), eq-eqb (length c.args.ik.now) 16 (omega arith), le-leb 17 (length c.args.frame.now) (omega arith), ne_eqb (c.args.frame.now ⟨ 0 ⟩) 1 c.if-frame-ne1.true) refl
 
-pub returns-then-two_at-n : goal.returns-then-two_at-n
+pub returns-then-two_at-n-clause-number : goal.returns-then-two_at-n-clause-number
 unfolding tested
-returns-then-two_at-n c =
+returns-then-two_at-n-clause-number c =
     let frame = c.args.frame.now in
     rw (eq-eqb (length c.args.ck.now) 16 (omega arith), eq-eqb (length c.args.ik.now) 16 (omega arith), le-leb 17 (length c.args.frame.now) (omega arith), eq-eqb (c.args.frame.now ⟨ 0 ⟩) 1 (omega arith), ne_eqb (two_at frame 1) (length frame - 3) (λ e. c.if-two_at-n.true (c.two_at.ensures ∙ e))) refl
 
-pub returns-then-not-fields_fit : goal.returns-then-not-fields_fit
+pub returns-then-not-fields_fit-clause-number : goal.returns-then-not-fields_fit-clause-number
 unfolding tested
-returns-then-not-fields_fit c =
+returns-then-not-fields_fit-clause-number c =
     let f = fields_in c.args.frame.now in
     let no : (field_test f.bearer f.direction).passes ≡ false =
     ap (λ (x : Fields). (field_test x.bearer x.direction).passes) (sym c.fields_in-f.ensures)
-    ∙ sym c.fields_fit.ensures
-    ∙ not-true c.fields_fit.result c.if-not-fields_fit.true-raw in
+    ∙ sym c.if-not-fields_fit.ensures in
     opened c.args.ck.now c.args.ik.now c.args.frame.now (omega arith) (omega arith) (omega arith) (omega arith) (omega arith) (rw no refl)
 
-pub returns-then-not-body_fits : goal.returns-then-not-body_fits
+pub returns-then-not-body_fits-clause-number : goal.returns-then-not-body_fits-clause-number
 unfolding tested
-returns-then-not-body_fits c =
+returns-then-not-body_fits-clause-number c =
     let fields : (field_test (fields_in c.args.frame.now).bearer (fields_in c.args.frame.now).direction).passes ≡ true =
     ap (λ (f : Fields). (field_test f.bearer f.direction).passes) (sym c.fields_in-f.ensures)
-    ∙ sym c.fields_fit.ensures
-    ∙ not-false c.fields_fit.result c.if-not-fields_fit.false-raw in
+    ∙ sym c.if-not-fields_fit.ensures in
     let frame = c.args.frame.now in
     let no : body_fits (fields_in frame).L (body_in frame) ≡ false =
     ap₂ body_fits (ap (λ (x : Fields). x.L) (sym c.fields_in-f.ensures)) (sym (lent-body frame))
-    ∙ sym c.body_fits.ensures
-    ∙ not-true c.body_fits.result c.if-not-body_fits.true-raw in
+    ∙ sym c.if-not-body_fits.ensures in
     opened c.args.ck.now c.args.ik.now c.args.frame.now (omega arith) (omega arith) (omega arith) (omega arith) (omega arith)
     (rw (fields, no) refl)
 
@@ -85,21 +82,19 @@ pub tag_over-requires : goal.tag_over-requires
 tag_over-requires c =
     let f = c.fields_in-f in
     sealable c.args.ik.now (fields_of f.result) _ (omega arith)
-    (sym c.fields_fit.ensures ∙ not-false c.fields_fit.result c.if-not-fields_fit.false-raw)
-    (sym c.body_fits.ensures ∙ not-false c.body_fits.result c.if-not-body_fits.false-raw)
+    (sym c.if-not-fields_fit.ensures)
+    (sym c.if-not-body_fits.ensures)
     (omega (arith, f.type_inv))
 
-pub returns-then-four_at-tag_over : goal.returns-then-four_at-tag_over
+pub returns-then-four_at-tag_over-clause-number : goal.returns-then-four_at-tag_over-clause-number
 unfolding tested
-returns-then-four_at-tag_over c =
+returns-then-four_at-tag_over-clause-number c =
     let fields : (field_test (fields_in c.args.frame.now).bearer (fields_in c.args.frame.now).direction).passes ≡ true =
     ap (λ (f : Fields). (field_test f.bearer f.direction).passes) (sym c.fields_in-f.ensures)
-    ∙ sym c.fields_fit.ensures
-    ∙ not-false c.fields_fit.result c.if-not-fields_fit.false-raw in
+    ∙ sym c.if-not-fields_fit.ensures in
     let body : body_fits (fields_in c.args.frame.now).L (body_in c.args.frame.now) ≡ true =
     ap₂ body_fits (ap (λ (f : Fields). f.L) (sym c.fields_in-f.ensures)) (sym (lent-body c.args.frame.now))
-    ∙ sym c.body_fits.ensures
-    ∙ not-false c.body_fits.result c.if-not-body_fits.false-raw in
+    ∙ sym c.if-not-body_fits.ensures in
     let low : (fields_in c.args.frame.now).L < 2 ^ 32 =
     omega (arith, ap (λ (f : Fields). f.L) c.fields_in-f.ensures, c.fields_in-f.type_inv) in
     let tag-told : c.tag_over.result ≡ tag_over c.args.ik.now (fields_in c.args.frame.now) (body_in c.args.frame.now) =
@@ -112,17 +107,15 @@ returns-then-four_at-tag_over c =
     opened c.args.ck.now c.args.ik.now c.args.frame.now (omega arith) (omega arith) (omega arith) (omega arith) (omega arith)
     (rw (fields, body, le-leb (0 + drawn_by_tag-EIA3 (fields_in frame).L) limit (omega (arith, low)), no) refl)
 
-pub returns : goal.returns
+pub returns-clause-number : goal.returns-clause-number
 unfolding tested
-returns c =
+returns-clause-number c =
     let fields : (field_test (fields_in c.args.frame.now).bearer (fields_in c.args.frame.now).direction).passes ≡ true =
     ap (λ (f : Fields). (field_test f.bearer f.direction).passes) (sym c.fields_in-f.ensures)
-    ∙ sym c.fields_fit.ensures
-    ∙ not-false c.fields_fit.result c.if-not-fields_fit.false-raw in
+    ∙ sym c.if-not-fields_fit.ensures in
     let body : body_fits (fields_in c.args.frame.now).L (body_in c.args.frame.now) ≡ true =
     ap₂ body_fits (ap (λ (f : Fields). f.L) (sym c.fields_in-f.ensures)) (sym (lent-body c.args.frame.now))
-    ∙ sym c.body_fits.ensures
-    ∙ not-false c.body_fits.result c.if-not-body_fits.false-raw in
+    ∙ sym c.if-not-body_fits.ensures in
     let low : (fields_in c.args.frame.now).L < 2 ^ 32 =
     omega (arith, ap (λ (f : Fields). f.L) c.fields_in-f.ensures, c.fields_in-f.type_inv) in
     let tag-told : c.tag_over.result ≡ tag_over c.args.ik.now (fields_in c.args.frame.now) (body_in c.args.frame.now) =

@@ -8,4 +8,4 @@ use Rattle.frame.proofs.tag_over.Goals as goal
 
 pub returns : goal.returns
 returns c =
-    c.tag_of.ensures ∙ ap (λ (x : Once ℕ). x.tag) (c.compute_strict-once.ensures ∙ tag_is c.args.ik.now (fields_of c.args.f) c.args.body.now c.requires)
+    c.unwrap_or.ensures ∙ ap (λ (x : Once ℕ). x.tag) (c.compute_strict.ensures ∙ tag_is c.args.ik.now (fields_of c.args.f) c.args.body.now c.requires)

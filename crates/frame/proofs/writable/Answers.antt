@@ -5,7 +5,7 @@ use mathlib.Core.List.{List, [], ◌∷◌}
 use Prim.Native.Nat.{ℕ, ◌+◌, ◌≤◌}
 use native.Mathlib.Omega.{arith}
 use lib.ListN.{length}
-use borrow.Author.Tests.{eq-eqb, le-leb, lt-leb, ne_eqb, not-false, not-true}
+use borrow.Author.Tests.{eq-eqb, le-leb, lt-leb, ne_eqb}
 use Rattle.standard.specs.Frame.{Fields, body_fits, body_in}
 use Rattle.standard.specs.Integrity.{drawn_by_tag-EIA3}
 use Rattle.standard.specs.Refusals.{accepted, field_test, tested}
@@ -44,17 +44,17 @@ pub returns-then-not-fields_fit : goal.returns-then-not-fields_fit
 unfolding tested
 returns-then-not-fields_fit c =
     let a = c.args in
-    let no : (field_test a.f.bearer a.f.direction).passes ≡ false = sym c.fields_fit.ensures ∙ not-true c.fields_fit.result c.if-not-fields_fit.true-raw in
+    let no : (field_test a.f.bearer a.f.direction).passes ≡ false = sym c.if-not-fields_fit.ensures in
     lent c.args.ck.now c.args.ik.now (fields_of c.args.f) c.args.frame.now (omega arith) (omega arith) (omega arith) (omega arith) (rw no refl)
 
 pub returns-then-not-body_fits : goal.returns-then-not-body_fits
 unfolding tested
 returns-then-not-body_fits c =
     let fields : (field_test c.args.f.bearer c.args.f.direction).passes ≡ true =
-    sym c.fields_fit.ensures ∙ not-false c.fields_fit.result c.if-not-fields_fit.false-raw in
+    sym c.if-not-fields_fit.ensures in
     let a = c.args in
     let no : body_fits a.f.bits (body_in a.frame.now) ≡ false =
-    ap (body_fits a.f.bits) (sym (lent-body a.frame.now)) ∙ sym c.body_fits.ensures ∙ not-true c.body_fits.result c.if-not-body_fits.true-raw in
+    ap (body_fits a.f.bits) (sym (lent-body a.frame.now)) ∙ sym c.if-not-body_fits.ensures in
     lent c.args.ck.now c.args.ik.now (fields_of c.args.f) c.args.frame.now (omega arith) (omega arith) (omega arith) (omega arith)
     (rw (fields, no) refl)
 
@@ -62,9 +62,9 @@ pub returns : goal.returns
 unfolding tested
 returns c =
     let fields : (field_test c.args.f.bearer c.args.f.direction).passes ≡ true =
-    sym c.fields_fit.ensures ∙ not-false c.fields_fit.result c.if-not-fields_fit.false-raw in
+    sym c.if-not-fields_fit.ensures in
     let a = c.args in
     let yes : body_fits a.f.bits (body_in a.frame.now) ≡ true =
-    ap (body_fits a.f.bits) (sym (lent-body a.frame.now)) ∙ sym c.body_fits.ensures ∙ not-false c.body_fits.result c.if-not-body_fits.false-raw in
+    ap (body_fits a.f.bits) (sym (lent-body a.frame.now)) ∙ sym c.if-not-body_fits.ensures in
     lent c.args.ck.now c.args.ik.now (fields_of c.args.f) c.args.frame.now (omega arith) (omega arith) (omega arith) (omega arith)
     (rw (fields, yes, le-leb (0 + drawn_by_tag-EIA3 a.f.bits) limit (omega (arith, c.well_formed.1.1.0))) refl)

@@ -1,26 +1,18 @@
--- `mac::begin_from` meets its contract: each answer of the keystream's start keeps its number.
-use mathlib.Core.Path.{refl, ap, ◌∙◌}
-use Rattle.keystream.specs.declared.StartAnswer.{StartAnswer}
-use Rattle.keystream.specs.Starts.{start_number, start_told}
+-- `mac::begin_from` meets its contract: a refusal of the keystream's start is passed up, and else a tag state is begun.
+use mathlib.Core.Path.{ap}
+use Rattle.std.proofs.lemmas.Result.{err_from_is_err_and}
 use Rattle.standard.specs.States.{Stored}
+use Rattle.standard.specs.Refusals.{tested}
 use Rattle.mac.specs.Inner.{begun-128}
-use Rattle.mac.specs.Reading.{tagged_of, tagged_of-128}
-use Rattle.mac.proofs.Outcomes.{refused_as, started-as}
-use borrow.Enum.Refused.{opened}
+use Rattle.mac.proofs.Outcomes.{refused_as}
 use Rattle.mac.proofs.begin_from.Goals as goal
 
-pub start_128-state-requires : goal.start_128-state-requires
-start_128-state-requires c = c.requires (ap start_number c.in-Started.is)
-
-pub returns-in-Started : goal.returns-in-Started
+pub returns-in_err-g : goal.returns-in_err-g
 unfolding begun-128
-returns-in-Started c =
-    started-as (start_told c.args.start) (tagged_of c.start_128-state.result 2) _ (ap start_number c.in-Started.is)
-    (ap (λ (x : Stored). record { held = x; count = 2 }) c.start_128-state.ensures)
+returns-in_err-g c =
+    let p = err_from_is_err_and c.from_residual.result c.from_residual.ensures.1 in
+    rw (p.1, p.2, c.in_err-g.was) (refused_as _ _ _ _)
 
-pub returns-in_default : goal.returns-in_default
-unfolding begun-128
-returns-in_default c =
-    let r = c.refused_128 in
-    ap (λ (a : StartAnswer). record { number = start_number a; state = tagged_of-128 r.result.mac }) r.ensures.0
-    ∙ refused_as (start_told c.args.start) (tagged_of-128 r.result.mac) _ c.args.start.answer (opened c.in_default.in_default-own.keys2) refl r.ensures.1
+pub returns : goal.returns
+unfolding begun-128 tested
+returns c = rw c.in_ok-g.was (ap (λ (x : Stored). record { number = 0; state = record { held = x; count = 2 } }) c.start_128.ensures)

@@ -1,30 +1,14 @@
 -- `mac::is_formed_256` meets its contract: well formed, and a count within the limit.
-use mathlib.Core.Bool.{false≢true}
-use mathlib.Core.Path.{refl, sym, ◌∙◌}
-use borrow.Author.Tests.{le-leb, lt-leb, not-false, not-true}
+use mathlib.Core.Bool.{Bool, ◌&&◌}
+use mathlib.Core.Path.{ap, ◌∙◌}
+use lib.Dec.{leb}
 use Rattle.standard.specs.States.{limit, tag_formed}
 use Rattle.mac.proofs.is_formed_256.Goals as goal
 
-pub returns-then-not-is_formed : goal.returns-then-not-is_formed
+pub returns-then-is_formed-clause-formed : goal.returns-then-is_formed-clause-formed
 unfolding tag_formed
-returns-then-not-is_formed c =
-    (rw (sym c.is_formed.ensures.0 ∙ not-true c.is_formed.result c.if-not-is_formed.true-raw) refl, λ e. absurd (false≢true e))
+returns-then-is_formed-clause-formed c = ap (λ (b : Bool). b && leb c.args.count limit) c.if-is_formed.ensures.0
 
-pub returns-then-count-gt-LIMIT : goal.returns-then-count-gt-LIMIT
+pub returns-else-is_formed-clause-formed : goal.returns-else-is_formed-clause-formed
 unfolding tag_formed
-returns-then-count-gt-LIMIT c = (
-  rw (
-    sym c.is_formed.ensures.0 ∙ not-false c.is_formed.result c.if-not-is_formed.false-raw,
-    lt-leb c.args.count limit c.if-count-gt-LIMIT.true,
-  )
-      refl,
-  λ e. absurd (false≢true e),
-)
-
-pub returns : goal.returns
-unfolding tag_formed
-returns c =
-    let ok = not-false c.is_formed.result c.if-not-is_formed.false-raw in (
-      rw (sym c.is_formed.ensures.0 ∙ ok, le-leb c.args.count limit c.if-count-gt-LIMIT.false) refl,
-      λ e. (c.is_formed.ensures.1 ok, c.if-count-gt-LIMIT.false),
-    )
+returns-else-is_formed-clause-formed c = c.if-is_formed.false ∙ ap (λ (b : Bool). b && leb c.args.count limit) c.if-is_formed.ensures.0

@@ -1,6 +1,5 @@
 -- `mac::eia3::compute_strict` meets its contract: the tests of key and fields, and past them the plain one-shot, which then trims nothing.
 use mathlib.Core.Path.{◌∙◌, sym}
-use borrow.Author.Tests.{not-false, not-true}
 use Rattle.standard.proofs.Fields.{bad-field, bad-key, field-passed}
 use Rattle.mac.specs.Calls.{strict_once_outcome-EIA3}
 use Rattle.mac.proofs.Strict.{once-form, strict-once-eia3}
@@ -17,11 +16,11 @@ unfolding strict_once_outcome-EIA3
 returns-then-not-fields_fit c =
     let a = c.args in
     bad-field (once-form a.count a.bearer a.direction a.key.now a.message.now a.l) c.if-key-ne16.false
-    (sym c.fields_fit.ensures ∙ not-true c.fields_fit.result c.if-not-fields_fit.true-raw)
+    (sym c.if-not-fields_fit.ensures)
 
 pub returns : goal.returns
 returns c =
     let a = c.args in
     c.compute.ensures
     ∙ sym (strict-once-eia3 a.count a.bearer a.direction a.key.now a.message.now a.l
-    (field-passed a.bearer a.direction (sym c.fields_fit.ensures ∙ not-false c.fields_fit.result c.if-not-fields_fit.false-raw)))
+    (field-passed a.bearer a.direction (sym c.if-not-fields_fit.ensures)))

@@ -1,12 +1,10 @@
 -- `mac::zuc128::compute` meets its contract: each refusal by its test, and else the standard's tag over the keystream of what was loaded.
-use mathlib.Core.Bool.{true}
-use mathlib.Core.Path.{◌≡◌, refl, sym, ap, ◌∙◌, subst}
+use mathlib.Core.Path.{refl, sym, ap, ◌∙◌, subst}
 use Prim.Native.Nat.{ℕ, ◌+◌, ◌*◌}
 use lib.Dec.{leb}
 use lib.ListN.{length}
-use borrow.Author.Tests.{eq-eqb, leb-true, ne_eqb, not-false, not-true}
+use borrow.Author.Tests.{eq-eqb, leb-true, ne_eqb}
 use Rattle.standard.specs.Generator.{State, started}
-use Rattle.standard.specs.Integrity.{drawn_by_tag-EIA3}
 use Rattle.standard.specs.Loading.{load₁₂₈}
 use Rattle.standard.specs.Refusals.{tested}
 use Rattle.standard.specs.States.{from_zero, limit}
@@ -31,53 +29,37 @@ pub returns-then-not-bits_fit : goal.returns-then-not-bits_fit
 unfolding once_outcome-128 tested
 returns-then-not-bits_fit c =
     let a = c.args in
-    let fit = c.bits_fit in
-    rw (
-      eq-eqb (length a.key.now) 16 c.if-key-ne16.false,
-      eq-eqb (length a.iv.now) 16 c.if-iv-ne16.false,
-      sym fit.ensures ∙ not-true fit.result c.if-not-bits_fit.true-raw,
-    )
-    refl
+    rw (eq-eqb (length a.key.now) 16 c.if-key-ne16.false, eq-eqb (length a.iv.now) 16 c.if-iv-ne16.false, sym c.if-not-bits_fit.ensures) refl
 
 pub returns-then-not-has_left : goal.returns-then-not-has_left
 unfolding once_outcome-128 tested
 returns-then-not-has_left c =
-    let left : c.has_left.result ≡ leb (0 + drawn_by_tag-EIA3 c.args.l) limit =
-    c.has_left.ensures ∙ ap (λ (n : ℕ). leb (0 + n) limit) c.by_tag_128.ensures in
-    let fits : leb c.args.l (length c.args.message.now * 8) ≡ true =
-    let fit = c.bits_fit in sym fit.ensures ∙ not-false fit.result c.if-not-bits_fit.false-raw in
     let a = c.args in
     rw (
       eq-eqb (length a.key.now) 16 c.if-key-ne16.false,
       eq-eqb (length a.iv.now) 16 c.if-iv-ne16.false,
-      fits,
-      sym left ∙ not-true c.has_left.result c.if-not-has_left.true-raw,
+      sym c.if-not-bits_fit.ensures,
+      sym (c.if-not-has_left.ensures ∙ ap (λ (n : ℕ). leb (0 + n) limit) c.by_tag_128.ensures),
     )
     refl
 
 pub once_128-requires : goal.once_128-requires
 once_128-requires c =
-    let fits : leb c.args.l (length c.args.message.now * 8) ≡ true =
-    let fit = c.bits_fit in sym fit.ensures ∙ not-false fit.result c.if-not-bits_fit.false-raw in
     let a = c.args in
-    record { cells = subst (λ (σ : State). Cells σ.cells) (sym c.load.ensures) (cells-128 _ _ (λ i. (c.shared_slice_known-1.given i).fits) (λ i. (c.shared_slice_known-2-1.given i).fits)); bits_fit = leb-true a.l (length a.message.now * 8) fits }
+    record { cells = subst (λ (σ : State). Cells σ.cells) (sym c.load.ensures) (cells-128 _ _ (λ i. (c.shared_slice_known-1.given i).fits) (λ i. (c.shared_slice_known-2-1.given i).fits)); bits_fit = leb-true a.l (length a.message.now * 8) (sym c.if-not-bits_fit.ensures) }
 
 pub returns : goal.returns
 unfolding once_outcome-128 tested
 returns c =
-    let left : c.has_left.result ≡ leb (0 + drawn_by_tag-EIA3 c.args.l) limit =
-    c.has_left.ensures ∙ ap (λ (n : ℕ). leb (0 + n) limit) c.by_tag_128.ensures in
-    let fits : leb c.args.l (length c.args.message.now * 8) ≡ true =
-    let fit = c.bits_fit in sym fit.ensures ∙ not-false fit.result c.if-not-bits_fit.false-raw in
     let a = c.args in
     let m = a.message.now in
     rw (
       eq-eqb (length a.key.now) 16 c.if-key-ne16.false,
       eq-eqb (length a.iv.now) 16 c.if-iv-ne16.false,
-      fits,
-      sym left ∙ not-false c.has_left.result c.if-not-has_left.false-raw,
+      sym c.if-not-bits_fit.ensures,
+      sym (c.if-not-has_left.ensures ∙ ap (λ (n : ℕ). leb (0 + n) limit) c.by_tag_128.ensures),
     )
     (ap (λ (x : ℕ). record { number = 0; tag = x })
     (c.once_128.ensures
     ∙ ap (λ (σ : State). closed-EIA3 (begun-EIA3 (from_zero (started σ))) m a.l) c.load.ensures
-    ∙ once-EIA3 (load₁₂₈ a.key.now a.iv.now) m a.l (leb-true a.l (length m * 8) fits)))
+    ∙ once-EIA3 (load₁₂₈ a.key.now a.iv.now) m a.l (leb-true a.l (length m * 8) (sym c.if-not-bits_fit.ensures))))
