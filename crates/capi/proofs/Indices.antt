@@ -8,7 +8,10 @@ use lib.ListN.{length}
 use lib.Dec.{leb, lit<}
 use native.Mathlib.Omega.{arith}
 use Rattle.keystream.specs.Draws.{FillOutcome, fill_outcome}
-use Rattle.keystream.specs.Starts.{StartOutcome, accepted_start, refused_start}
+use Rattle.keystream.specs.Starts.{StartOutcome, accepted_start, refused_start, start_told}
+use Rattle.refusals.specs.declared.Refusal.{Refusal}
+use Rattle.std.specs.Prelude.{Err, IfOk, Ok, Result}
+use Rattle.zuc.specs.declared.Generator.{Generator}
 use Rattle.mask.specs.Outcome.{Outcome, mask_tested}
 use Rattle.standard.proofs.Tested.{Numbered, either}
 use Rattle.standard.specs.Generator.{State}
@@ -29,6 +32,10 @@ unfolding zeros
 start_fits tests low loaded e =
     subst (λ (o : StartOutcome). Small o.state) (sym e)
     (either (λ (o : StartOutcome). Small o.state) tests low refused_start (accepted_start loaded) (λ n. (lit< tt, lit< tt)) (λ all. (lit< tt, lit< tt)))
+
+pub start_small : (r : Result Generator Refusal) → Small (start_told r).state → IfOk r (λ g. (g.z.start < 2 ^ 32) × (g.count < 2 ^ 32))
+start_small (Ok g) h = h
+start_small (Err refusal) h = tt
 
 -- words that are within the limit
 drawn-fits : (n : ℕ) (g : Counted Held) → Small g → leb (g.count + n) limit ≡ true → Small (drawn_on n g)

@@ -42,7 +42,7 @@ use Rattle.frame.specs.Outcome.{Written}
 use Rattle.capi.specs.Frames.{ReadArray}
 use Rattle.capi.specs.Generators.{DrawArray, MaskArray, StartArray, WordsArray}
 use Rattle.capi.specs.Tags.{ClosingArray, TagArray}
-use Rattle.guard.proofs.Tight.{told-tight}
+use Rattle.guard.proofs.Tight.{tables-once}
 use Rattle.guard.specs.declared.Link.{Link}
 use Rattle.guard.specs.Outcome.{Guarded, table_of}
 use Rattle.mac.specs.Calls.{Once}
@@ -196,7 +196,7 @@ asks-nothing-eea3-mask-clean-strict κs a = tt
 -- the guard: the number returned, and the table
 links-tight : (r r' : ℕ) (ys ys' : List Link) → ◌≡◌ {A = Guarded} (record { number = r; table = table_of ys }) (record { number = r'; table = table_of ys' })
     → ◌≡◌ {A = ℕ × List Link} (r, ys) (r', ys')
-links-tight = told-tight (λ (n : ℕ). n) (λ n. n) (λ n. refl)
+links-tight r r' ys ys' e = λ i. ((e i).number, tables-once ys ys' (λ j. (e j).table) i)
 
 -- a function walked by hand has no `Reads`: what it promises and asks is read here, by the rules that read every other one
 abbrev pub guard-accept-read : (κs : Lfts 1) (a : ArgsD zuc-guard-accept.signature κs) (r : ResD zuc-guard-accept.signature κs) (s : AtExit zuc-guard-accept.ended κs) (w : World)

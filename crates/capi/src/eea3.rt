@@ -2,15 +2,14 @@
 ghost use Rattle.std.specs.Prelude.{List, ◌≡◌, ℕ};
 ghost use Rattle.mask.specs.Once.{clean-EEA3, crate-EEA3, once_told, strict_clean-EEA3, strict_crate-EEA3};
 
-use capi_answers::{once_mask_count, once_mask_number};
-use mask::eea3::OnceAnswer;
+use refusals::{Refusal, number_of};
 
 // What a call answers goes into the count, whatever its buffer became.
-fn put_once(answer: OnceAnswer, drawn: &mut usize) -> u32
+fn put_once(answer: Result<usize, Refusal>, drawn: &mut usize) -> u32
     ensures { (buffer : List ℕ) → record { number = result; count = drawn.new; buffer = buffer } ≡ once_told answer buffer }
 {
-    *drawn = once_mask_count(answer);
-    once_mask_number(answer)
+    *drawn = answer.unwrap_or(0);
+    number_of(&answer)
 }
 
 // As the crate does, or BAD_KEY, BAD_BITS, SPENT.

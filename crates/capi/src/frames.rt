@@ -3,8 +3,8 @@ ghost use Rattle.std.specs.Prelude.{List, ◌≡◌, ℕ};
 ghost use Rattle.capi.specs.Frames.{read_array};
 ghost use Rattle.frame.specs.Outcome.{read_outcome, read_told, write_outcome};
 
-use capi_answers::frame_number;
-use frame::{FrameFields, Opened};
+use frame::FrameFields;
+use refusals::{Refusal, number_of};
 
 // A frame written where its plain body lies, or BAD_KEY, BAD_FRAME, BAD_LENGTH, BAD_FIELD, BAD_BODY.
 #[unsafe(no_mangle)]
@@ -25,18 +25,18 @@ pub extern "C" fn zuc_frame_write(
         direction,
         bits,
     };
-    let answer = frame::write(ck, ik, fields, frame);
-    frame_number(answer)
+    number_of(&frame::write(ck, ik, fields, frame))
 }
 
 // What a reader answers goes into the four numbers, whatever its frame became: zeros, where it refused.
-fn put_fields(opened: Opened, fields: &mut [u32; 4]) -> u32
+fn put_fields(opened: Result<FrameFields, Refusal>, fields: &mut [u32; 4]) -> u32
     ensures { (frame : List ℕ) → record { number = result; fields = fields.new; frame = frame } ≡ read_array (read_told opened frame) }
 {
-    let f = opened.fields;
-    let answer = opened.answer;
-    *fields = [f.count, f.bearer as u32, f.direction as u32, f.bits];
-    frame_number(answer)
+    *fields = match opened {
+        Ok(f) => [f.count, u32::from(f.bearer), u32::from(f.direction), f.bits],
+        Err(_) => [0; 4],
+    };
+    number_of(&opened)
 }
 
 // A frame's plain body left where it lies, and COUNT, bearer, direction and L; or BAD_KEY, BAD_FRAME, BAD_LENGTH, BAD_FIELD, BAD_BODY, BAD_TAG.

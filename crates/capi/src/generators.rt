@@ -1,6 +1,6 @@
 // Generators: starts, draws and masks. Each export reads the array as a state, makes the inner call, and writes back what it hands
 // back: on a refusal that is the state as it came.
-ghost use Rattle.std.specs.Prelude.{List, ◌≡◌, ℕ, ◌^◌, ◌<◌};
+ghost use Rattle.std.specs.Prelude.{IfOk, List, ◌≡◌, ℕ, ◌^◌, ◌<◌};
 ghost use Rattle.capi_arrays.specs.Arrays.{held_in};
 ghost use Rattle.capi.specs.Generators.{draw_array, mask_array, start_array, words_array};
 ghost use Rattle.keystream.specs.Draws.{draw_outcome, fill_outcome};
@@ -8,23 +8,26 @@ ghost use Rattle.keystream.specs.Starts.{start_told, start₁₂₈, start₂₅
 ghost use Rattle.mask.specs.Outcome.{clean_outcome, crate_outcome, told};
 ghost use Rattle.standard.specs.Loading.{d-keystream};
 
-use capi_answers::{
-    ACCEPTED, BAD_STATE, SPENT, fill_number, mask_count, mask_number, start_number,
-};
 use capi_arrays::{array_of, state_in};
 use capi_draw::{draw_in, has_word, is_formed};
-use keystream::Start;
-use mask::Masked;
+use refusals::{ACCEPTED, Refusal, number_of};
+use zuc::Generator;
 
 // What a start hands back goes into the array: zeros, where it was refused.
-fn put_start(state: &mut [u32; 20], start: Start) -> u32
-    requires { (start.state.z.start < 2 ^ 32) × (start.state.count < 2 ^ 32) }
+fn put_start(state: &mut [u32; 20], start: Result<Generator, Refusal>) -> u32
+    requires { IfOk start (λ g. (g.z.start < 2 ^ 32) × (g.count < 2 ^ 32)) }
     ensures { record { number = result; array = state.new } ≡ start_array (start_told start) }
 {
-    let z = start.state;
-    let answer = start.answer;
-    *state = array_of(z);
-    start_number(answer)
+    match start {
+        Ok(g) => {
+            *state = array_of(g);
+            ACCEPTED
+        }
+        Err(refusal) => {
+            *state = [0; 20];
+            u32::from(refusal)
+        }
+    }
 }
 
 // A ZUC-128 generator, or BAD_KEY, BAD_IV.
@@ -81,10 +84,10 @@ pub extern "C" fn zuc_draw(state: &mut [u32; 20], word: &mut u32) -> u32
 {
     *word = 0;
     if !is_formed(state) {
-        return BAD_STATE;
+        return u32::from(Refusal::BadState);
     }
     if !has_word(state) {
-        return SPENT;
+        return u32::from(Refusal::Spent);
     }
     *word = draw_in(state);
     ACCEPTED
@@ -95,23 +98,25 @@ pub extern "C" fn zuc_draw(state: &mut [u32; 20], word: &mut u32) -> u32
 pub extern "C" fn zuc_words(state: &mut [u32; 20], out: &mut [u32]) -> u32
     ensures { record { number = result; array = state.new; buffer = out.new } ≡ words_array (fill_outcome (held_in state.old) out.old) }
 {
-    let filling = keystream::fill(state_in(*state), out);
-    let next = filling.state;
-    let answer = filling.answer;
-    *state = array_of(next);
-    fill_number(answer)
+    let mut g = state_in(*state);
+    let answer = keystream::fill(&mut g, out);
+    *state = array_of(g);
+    number_of(&answer)
 }
 
-// What a masking call hands back goes into the array and the count, whatever its buffer became.
-fn put_mask(masked: Masked, state: &mut [u32; 20], count: &mut usize) -> u32
-    requires { (masked.state.z.start < 2 ^ 32) × (masked.state.count < 2 ^ 32) }
-    ensures { (buffer : List ℕ) → record { number = result; count = count.new; array = state.new; buffer = buffer } ≡ mask_array (told masked buffer) }
+// What a masking call answers and leaves goes into the count and the array, whatever its buffer became.
+fn put_mask(
+    answer: Result<usize, Refusal>,
+    g: Generator,
+    state: &mut [u32; 20],
+    count: &mut usize,
+) -> u32
+    requires { (g.z.start < 2 ^ 32) × (g.count < 2 ^ 32) }
+    ensures { (buffer : List ℕ) → record { number = result; count = count.new; array = state.new; buffer = buffer } ≡ mask_array (told answer g buffer) }
 {
-    let next = masked.state;
-    let answer = masked.answer;
-    *state = array_of(next);
-    *count = mask_count(answer);
-    mask_number(answer)
+    *state = array_of(g);
+    *count = answer.unwrap_or(0);
+    number_of(&answer)
 }
 
 // A mask as the crate does it, or BAD_STATE, BAD_BITS, SPENT.
@@ -124,8 +129,9 @@ pub extern "C" fn zuc_mask_crate(
 ) -> u32
     ensures { record { number = result; count = count.new; array = state.new; buffer = buf.new } ≡ mask_array (crate_outcome (held_in state.old) bits buf.old) }
 {
-    let masked = mask::mask_crate(state_in(*state), buf, bits);
-    put_mask(masked, state, count)
+    let mut g = state_in(*state);
+    let answer = mask::mask_crate(&mut g, buf, bits);
+    put_mask(answer, g, state, count)
 }
 
 // A mask with every bit past the length zeroed, or BAD_STATE, BAD_BITS, SPENT.
@@ -138,6 +144,7 @@ pub extern "C" fn zuc_mask_clean(
 ) -> u32
     ensures { record { number = result; count = count.new; array = state.new; buffer = buf.new } ≡ mask_array (clean_outcome (held_in state.old) bits buf.old) }
 {
-    let masked = mask::mask_clean(state_in(*state), buf, bits);
-    put_mask(masked, state, count)
+    let mut g = state_in(*state);
+    let answer = mask::mask_clean(&mut g, buf, bits);
+    put_mask(answer, g, state, count)
 }

@@ -2,16 +2,15 @@
 ghost use Rattle.std.specs.Prelude.{◌≡◌};
 ghost use Rattle.guard.specs.Outcome.{accept_outcome, rekey_outcome, table_of};
 
-use capi_answers::{accept_number, rekey_number};
 use guard::Link;
+use refusals::number_of;
 
 // Whether a COUNT may pass on a link, or BAD_LINK, BAD_AGE, BAD_REUSE.
 #[unsafe(no_mangle)]
 pub extern "C" fn zuc_guard_accept(links: &mut [Link], at: usize, count: u32) -> u32
     ensures { record { number = result; table = table_of links.new } ≡ accept_outcome (table_of links.old) at count }
 {
-    let answer = guard::accept(links, at, count);
-    accept_number(answer)
+    number_of(&guard::accept(links, at, count))
 }
 
 // A link made fresh again, or BAD_LINK.
@@ -19,6 +18,5 @@ pub extern "C" fn zuc_guard_accept(links: &mut [Link], at: usize, count: u32) ->
 pub extern "C" fn zuc_guard_rekey(links: &mut [Link], at: usize) -> u32
     ensures { record { number = result; table = table_of links.new } ≡ rekey_outcome (table_of links.old) at }
 {
-    let answer = guard::rekey(links, at);
-    rekey_number(answer)
+    number_of(&guard::rekey(links, at))
 }

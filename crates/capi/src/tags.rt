@@ -2,26 +2,29 @@
 ghost use Rattle.std.specs.Prelude.{◌≡◌};
 ghost use Rattle.capi_arrays.specs.Arrays.{stored_in};
 ghost use Rattle.capi.specs.Tags.{closing_array, tag_array, two_closing, two_once};
-ghost use Rattle.keystream.specs.Starts.{start_number};
-ghost use Rattle.mac.specs.Calls.{finish_outcome-128, finish_outcome-256, once_outcome-128, once_outcome-256, once_outcome-EIA3, once_told-128, start_outcome-128, start_outcome-256, start_outcome-EIA3, strict_once_outcome-EIA3, strict_start_outcome-EIA3, update_number, update_outcome};
+ghost use Rattle.mac.specs.Calls.{finish_outcome-128, finish_outcome-256, once_outcome-128, once_outcome-256, once_outcome-EIA3, once_told, start_outcome-128, start_outcome-256, start_outcome-EIA3, strict_once_outcome-EIA3, strict_start_outcome-EIA3, tag_told, update_outcome, update_told};
 ghost use Rattle.standard.specs.States.{formed-128, formed, tag_formed};
 ghost use Rattle.mac.specs.Reading.{tagged_of};
 
-use capi_answers::{
-    number_128, number_256, once_number_128, once_number_256, once_word, once_words, start_number,
-    tag_word, tag_words, update_number,
-};
 use capi_arrays::{tag_array_of, tag_state_in};
-use keystream::StartAnswer;
-use mac::{Mac128, Mac256, Once128, UpdateAnswer};
+use mac::{Mac128, Mac256};
 use mac_registers::TagState;
+use refusals::{ACCEPTED, Refusal, number_of};
 
 // What a start hands back goes into the array: zeros, where it was refused.
-fn put_start(state: &mut [u64; 21], answer: StartAnswer, s: TagState, count: usize) -> u32
-    ensures { record { number = result; array = state.new } ≡ tag_array (record { number = start_number answer; state = tagged_of s count }) }
+fn put_start(state: &mut [u64; 21], start: Result<(TagState, usize), Refusal>) -> u32
+    ensures { record { number = result; array = state.new } ≡ tag_array (tag_told (λ t. tagged_of t.0 t.1) start) }
 {
-    *state = tag_array_of(s, count);
-    start_number(answer)
+    match start {
+        Ok((s, count)) => {
+            *state = tag_array_of(s, count);
+            ACCEPTED
+        }
+        Err(refusal) => {
+            *state = [0; 21];
+            u32::from(refusal)
+        }
+    }
 }
 
 // A ZUC-128 tag state, or BAD_KEY, BAD_IV.
@@ -30,11 +33,7 @@ pub extern "C" fn zuc128_tag_start(state: &mut [u64; 21], key: &[u8], iv: &[u8])
     ensures { record { number = result; array = state.new } ≡ tag_array (start_outcome-128 key.now iv.now) }
 {
     let start = mac::zuc128::new(key, iv);
-    let mac = start.mac;
-    let s = mac.state;
-    let drawn = mac.count;
-    let answer = start.answer;
-    put_start(state, answer, s, drawn)
+    put_start(state, start.map(|mac| (mac.state, mac.count)))
 }
 
 // An EIA3 tag state, or BAD_KEY.
@@ -49,11 +48,7 @@ pub extern "C" fn eia3_tag_start(
     ensures { record { number = result; array = state.new } ≡ tag_array (start_outcome-EIA3 count bearer direction key.now) }
 {
     let start = mac::eia3::new(count, bearer, direction, key);
-    let mac = start.mac;
-    let s = mac.state;
-    let drawn = mac.count;
-    let answer = start.answer;
-    put_start(state, answer, s, drawn)
+    put_start(state, start.map(|mac| (mac.state, mac.count)))
 }
 
 // The same of a bearer and a direction as given, or BAD_KEY, BAD_FIELD.
@@ -68,11 +63,7 @@ pub extern "C" fn eia3_tag_start_strict(
     ensures { record { number = result; array = state.new } ≡ tag_array (strict_start_outcome-EIA3 count bearer direction key.now) }
 {
     let start = mac::eia3::new_strict(count, bearer, direction, key);
-    let mac = start.mac;
-    let s = mac.state;
-    let drawn = mac.count;
-    let answer = start.answer;
-    put_start(state, answer, s, drawn)
+    put_start(state, start.map(|mac| (mac.state, mac.count)))
 }
 
 // A ZUC-256 tag state of a width in bytes, or BAD_WIDTH, BAD_KEY, BAD_IV.
@@ -86,19 +77,15 @@ pub extern "C" fn zuc256_tag_start(
     ensures { record { number = result; array = state.new } ≡ tag_array (start_outcome-256 width key.now iv.now) }
 {
     let start = mac::zuc256::new(width, key, iv);
-    let mac = start.mac;
-    let s = mac.state;
-    let drawn = mac.count;
-    let answer = start.answer;
-    put_start(state, answer, s, drawn)
+    put_start(state, start.map(|mac| (mac.state, mac.count)))
 }
 
-// What an update hands back goes into the array.
-fn put_update(state: &mut [u64; 21], answer: UpdateAnswer, s: TagState, words: usize) -> u32
-    ensures { record { number = result; array = state.new } ≡ tag_array (record { number = update_number answer; state = tagged_of s words }) }
+// What an update answers and leaves goes into the array.
+fn put_update(state: &mut [u64; 21], answer: Result<(), Refusal>, s: TagState, words: usize) -> u32
+    ensures { record { number = result; array = state.new } ≡ tag_array (update_told answer (tagged_of s words)) }
 {
     *state = tag_array_of(s, words);
-    update_number(answer)
+    number_of(&answer)
 }
 
 // More bytes of a message, of ZUC-128 or EIA3, or BAD_STATE, SPENT.
@@ -106,20 +93,12 @@ fn put_update(state: &mut [u64; 21], answer: UpdateAnswer, s: TagState, words: u
 pub extern "C" fn zuc128_tag_update(state: &mut [u64; 21], msg: &[u8]) -> u32
     ensures { record { number = result; array = state.new } ≡ tag_array (update_outcome (tag_formed formed-128 (stored_in state.old)) (stored_in state.old) msg.now) }
 {
-    let before = tag_state_in(*state);
-    let count = state[10] as usize;
-    let update = mac::zuc128::update(
-        Mac128 {
-            state: before,
-            count,
-        },
-        msg,
-    );
-    let mac = update.mac;
-    let s = mac.state;
-    let drawn = mac.count;
-    let answer = update.answer;
-    put_update(state, answer, s, drawn)
+    let mut mac = Mac128 {
+        state: tag_state_in(*state),
+        count: state[10] as usize,
+    };
+    let answer = mac::zuc128::update(&mut mac, msg);
+    put_update(state, answer, mac.state, mac.count)
 }
 
 // More bytes of a message, of ZUC-256, or BAD_STATE, SPENT.
@@ -127,20 +106,20 @@ pub extern "C" fn zuc128_tag_update(state: &mut [u64; 21], msg: &[u8]) -> u32
 pub extern "C" fn zuc256_tag_update(state: &mut [u64; 21], msg: &[u8]) -> u32
     ensures { record { number = result; array = state.new } ≡ tag_array (update_outcome (tag_formed formed (stored_in state.old)) (stored_in state.old) msg.now) }
 {
-    let before = tag_state_in(*state);
-    let count = state[10] as usize;
-    let update = mac::zuc256::update(
-        Mac256 {
-            state: before,
-            count,
-        },
-        msg,
-    );
-    let mac = update.mac;
-    let s = mac.state;
-    let drawn = mac.count;
-    let answer = update.answer;
-    put_update(state, answer, s, drawn)
+    let mut mac = Mac256 {
+        state: tag_state_in(*state),
+        count: state[10] as usize,
+    };
+    let answer = mac::zuc256::update(&mut mac, msg);
+    put_update(state, answer, mac.state, mac.count)
+}
+
+// What a closing or a one-shot of 32 bits answers goes into the tag's first word.
+fn put_tag_32(answer: Result<u32, Refusal>, tag: &mut [u64; 2]) -> u32
+    ensures { record { number = result; tag = tag.new } ≡ two_once (once_told 0 answer) }
+{
+    *tag = [u64::from(answer.unwrap_or(0)), 0];
+    number_of(&answer)
 }
 
 // The tag of ZUC-128 or EIA3, and a state of zeros, or BAD_STATE, BAD_BITS, SPENT.
@@ -153,23 +132,13 @@ pub extern "C" fn zuc128_tag_finish(
 ) -> u32
     ensures { record { number = result; tag = tag.new; array = state.new } ≡ closing_array (two_closing (finish_outcome-128 (stored_in state.old) tail.now bits)) }
 {
-    let before = tag_state_in(*state);
-    let count = state[10] as usize;
-    let finish = mac::zuc128::finish(
-        Mac128 {
-            state: before,
-            count,
-        },
-        tail,
-        bits,
-    );
-    let mac = finish.mac;
-    let s = mac.state;
-    let drawn = mac.count;
-    let answer = finish.answer;
-    *state = tag_array_of(s, drawn);
-    *tag = [tag_word(answer) as u64, 0];
-    number_128(answer)
+    let mut mac = Mac128 {
+        state: tag_state_in(*state),
+        count: state[10] as usize,
+    };
+    let answer = mac::zuc128::finish(&mut mac, tail, bits);
+    *state = tag_array_of(mac.state, mac.count);
+    put_tag_32(answer, tag)
 }
 
 // The tag of ZUC-256, and a state of zeros, or BAD_STATE, BAD_BITS, SPENT.
@@ -182,31 +151,14 @@ pub extern "C" fn zuc256_tag_finish(
 ) -> u32
     ensures { record { number = result; tag = tag.new; array = state.new } ≡ closing_array (finish_outcome-256 (stored_in state.old) tail.now bits) }
 {
-    let before = tag_state_in(*state);
-    let count = state[10] as usize;
-    let finish = mac::zuc256::finish(
-        Mac256 {
-            state: before,
-            count,
-        },
-        tail,
-        bits,
-    );
-    let mac = finish.mac;
-    let s = mac.state;
-    let drawn = mac.count;
-    let answer = finish.answer;
-    *state = tag_array_of(s, drawn);
-    *tag = tag_words(answer);
-    number_256(answer)
-}
-
-// What a one-shot of 32 bits answers goes into the tag.
-fn put_once_128(answer: Once128, tag: &mut [u64; 2]) -> u32
-    ensures { record { number = result; tag = tag.new } ≡ two_once (once_told-128 answer) }
-{
-    *tag = [once_word(answer) as u64, 0];
-    once_number_128(answer)
+    let mut mac = Mac256 {
+        state: tag_state_in(*state),
+        count: state[10] as usize,
+    };
+    let answer = mac::zuc256::finish(&mut mac, tail, bits);
+    *state = tag_array_of(mac.state, mac.count);
+    *tag = answer.unwrap_or([0, 0]);
+    number_of(&answer)
 }
 
 // A ZUC-128 tag at once, or BAD_KEY, BAD_IV, BAD_BITS, SPENT.
@@ -220,7 +172,7 @@ pub extern "C" fn zuc128_tag(
 ) -> u32
     ensures { record { number = result; tag = tag.new } ≡ two_once (once_outcome-128 key.now iv.now msg.now bits) }
 {
-    put_once_128(mac::zuc128::compute(key, iv, msg, bits), tag)
+    put_tag_32(mac::zuc128::compute(key, iv, msg, bits), tag)
 }
 
 // An EIA3 tag at once, or BAD_KEY, BAD_BITS, SPENT.
@@ -236,7 +188,7 @@ pub extern "C" fn eia3_tag(
 ) -> u32
     ensures { record { number = result; tag = tag.new } ≡ two_once (once_outcome-EIA3 count bearer direction key.now msg.now bits) }
 {
-    put_once_128(
+    put_tag_32(
         mac::eia3::compute(count, bearer, direction, key, msg, bits),
         tag,
     )
@@ -255,7 +207,7 @@ pub extern "C" fn eia3_tag_strict(
 ) -> u32
     ensures { record { number = result; tag = tag.new } ≡ two_once (strict_once_outcome-EIA3 count bearer direction key.now msg.now bits) }
 {
-    put_once_128(
+    put_tag_32(
         mac::eia3::compute_strict(count, bearer, direction, key, msg, bits),
         tag,
     )
@@ -274,6 +226,6 @@ pub extern "C" fn zuc256_tag(
     ensures { record { number = result; tag = tag.new } ≡ once_outcome-256 width key.now iv.now msg.now bits }
 {
     let answer = mac::zuc256::compute(width, key, iv, msg, bits);
-    *tag = once_words(answer);
-    once_number_256(answer)
+    *tag = answer.unwrap_or([0, 0]);
+    number_of(&answer)
 }

@@ -30,6 +30,9 @@ unfolding links_of
 links-back [] = refl
 links-back (y ∷ ys) = ap (λ (l : List declared.Link). y ∷ l) (links-back ys)
 
+pub tables-once : (ys ys' : List declared.Link) → table_of ys ≡ table_of ys' → ys ≡ ys'
+tables-once ys ys' e = sym (links-back ys) ∙ ap links_of e ∙ links-back ys'
+
 -- what is told tells what is returned, and the table
 pub told-tight : (r r' : Result ⊤ Refusal) (ys ys' : List declared.Link)
     → ◌≡◌ {A = Guarded} (record { number = answer_number r; table = table_of ys }) (record { number = answer_number r'; table = table_of ys' })
@@ -37,7 +40,7 @@ pub told-tight : (r r' : Result ⊤ Refusal) (ys ys' : List declared.Link)
 told-tight r r' ys ys' e =
     λ i. (
       answer-once tt r r' (ap (λ (o : Guarded). o.number) e) refl i,
-      (sym (links-back ys) ∙ ap (λ (o : Guarded). links_of o.table) e ∙ links-back ys') i,
+      tables-once ys ys' (ap (λ (o : Guarded). o.table) e) i,
     )
 
 -- what a call promises and asks, read here by the rules that read every other one; it is what Rattle reads, the `Post` of its `Reads`

@@ -1,14 +1,9 @@
 -- `zuc256_start` puts the keystream's start.
 use lib.Dec.{lit<}
-use mathlib.Core.Path.{◌∙◌, ap}
-use Rattle.capi.proofs.Indices.{start_fits}
-use Rattle.capi.specs.Generators.{start_array}
+use Rattle.capi.proofs.Indices.{start_fits, start_small}
 use Rattle.keystream.specs.Starts.{start₂₅₆}
 use Rattle.capi.proofs.generators.zuc256_start.Goals as goal
 
 pub put_start-requires : goal.put_start-requires
 unfolding start₂₅₆
-put_start-requires c = start_fits _ (lit< tt, (lit< tt, tt)) _ c.new.ensures
-
-pub returns : goal.returns
-returns c = c.put_start.ensures ∙ ap start_array c.new.ensures
+put_start-requires c = start_small _ (start_fits _ (lit< tt, (lit< tt, tt)) _ c.new.ensures)

@@ -8,10 +8,10 @@ use Rattle.capi.proofs.generators.zuc_mask_clean.Goals as goal
 
 pub put_mask-requires : goal.put_mask-requires
 put_mask-requires c =
-    mask_fits _ c.state_in.ensures.small _ _ _ _ c.mask_clean-masked.ensures
+    mask_fits _ c.state_in-g.ensures.small _ _ _ _ c.mask_clean-answer.ensures
 
 pub returns : goal.returns
 returns c =
     let a = c.args in
     c.put_mask.ensures _
-    ∙ ap mask_array (c.mask_clean-masked.ensures ∙ ap (λ (h : Counted Held). clean_outcome h a.bits a.buf.now) c.state_in.ensures.is)
+    ∙ ap mask_array (c.mask_clean-answer.ensures ∙ ap (λ (h : Counted Held). clean_outcome h a.bits a.buf.now) c.state_in-g.ensures.is)

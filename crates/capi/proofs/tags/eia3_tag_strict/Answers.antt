@@ -1,7 +1,0 @@
--- `eia3_tag_strict` puts the strict one-shot's answer.
-use mathlib.Core.Path.{◌∙◌, ap}
-use Rattle.capi.specs.Tags.{two_once}
-use Rattle.capi.proofs.tags.eia3_tag_strict.Goals as goal
-
-pub returns : goal.returns
-returns c = c.put_once_128.ensures ∙ ap two_once c.compute_strict.ensures

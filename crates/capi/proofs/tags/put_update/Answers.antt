@@ -1,5 +1,0 @@
--- `put_update`: the number of the answer, and the array of the state.
-use Rattle.capi.proofs.tags.put_update.Goals as goal
-
-pub returns : goal.returns
-returns c = λ i. record { number = c.update_number.ensures i; array = c.tag_array_of.ensures.is i }
