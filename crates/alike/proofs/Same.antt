@@ -13,7 +13,7 @@ use Rattle.mac.proofs.zuc128.finish.Reads as zuc128-finish
 use Rattle.mac.proofs.zuc128.update.Reads as zuc128-update
 use Rattle.mac.proofs.zuc256.finish.Reads as zuc256-finish
 use Rattle.mac.proofs.zuc256.update.Reads as zuc256-update
-use Rattle.mac.specs.Calls.{finish_outcome-128, finish_outcome-256, finish_told-128, finish_told-256, update_outcome, update_told-128, update_told-256}
+use Rattle.mac.specs.Calls.{finish_outcome-128, finish_outcome-256, finish_told, no_words, update_outcome, update_told}
 use Rattle.mac.specs.Reading.{tagged_of-128, tagged_of-256}
 use Rattle.mask.proofs.mask_clean.Reads as mask-clean
 use Rattle.mask.proofs.mask_crate.Reads as mask-crate
@@ -33,44 +33,44 @@ module _ {O St Rest : Type 0} (Like : St → St → Type 0) (Agrees : O → O �
 draw : {h k : Counted Held} {o o' : DrawOutcome} → AlikeGenerator h k → o ≡ draw_outcome h → o' ≡ draw_outcome k → AgreeDraw o o'
 draw e = as-told AlikeGenerator AgreeDraw (λ (h : Counted Held) (x : Unit {0}). draw_outcome h) (λ h k x. draw-agrees) e refl
 
-pub same-generate : SameAnswers AlikeGenerator AgreeDraw generate.Post (λ κs a. counted_of a.0) (λ κs a. tt {0}) (λ κs r s. draw_told r)
+pub same-generate : SameAnswers AlikeGenerator AgreeDraw generate.Post (λ κs a. counted_of a.0) (λ κs a. tt {0}) (λ κs r s. draw_told r.answer r.state)
 same-generate κs κs' a a' r r' s s' e x = draw e
 
 pub same-generate-in-place : SameAnswers AlikeGenerator AgreeDraw in-place-post (λ κs a. counted_of a.0.now) (λ κs a. tt {0})
-    (λ κs r s. draw_told (record { answer = r; state = s.0.now }))
+    (λ κs r s. draw_told r s.0.now)
 same-generate-in-place κs κs' a a' r r' s s' e x = draw e
 
 -- a buffer of words
-pub same-fill : SameAnswers AlikeGenerator AgreeFill fill.Post (λ κs a. counted_of a.0) (λ κs a. a.1.0.now) (λ κs r s. fill_told r s.1.0.now)
+pub same-fill : SameAnswers AlikeGenerator AgreeFill fill.Post (λ κs a. counted_of a.0.now) (λ κs a. a.1.0.now) (λ κs r s. fill_told r s.0.now s.1.0.now)
 same-fill κs κs' a a' r r' s s' = as-told AlikeGenerator AgreeFill fill_outcome (λ h k buffer e. fill-agrees e buffer)
 
 -- masks
-pub same-mask-crate : SameAnswers {Rest = ℕ × List ℕ} AlikeGenerator AgreeMask mask-crate.Post (λ κs a. counted_of a.0) (λ κs a. (a.1.1.0, a.1.0.now))
-    (λ κs r s. told r s.1.0.now)
+pub same-mask-crate : SameAnswers {Rest = ℕ × List ℕ} AlikeGenerator AgreeMask mask-crate.Post (λ κs a. counted_of a.0.now) (λ κs a. (a.1.1.0, a.1.0.now))
+    (λ κs r s. told r s.0.now s.1.0.now)
 same-mask-crate κs κs' a a' r r' s s' =
     as-told AlikeGenerator AgreeMask (λ (h : Counted Held) (x : ℕ × List ℕ). crate_outcome h x.0 x.1) (λ h k x e. crate-agrees e x.0 x.1)
 
-pub same-mask-clean : SameAnswers {Rest = ℕ × List ℕ} AlikeGenerator AgreeMask mask-clean.Post (λ κs a. counted_of a.0) (λ κs a. (a.1.1.0, a.1.0.now))
-    (λ κs r s. told r s.1.0.now)
+pub same-mask-clean : SameAnswers {Rest = ℕ × List ℕ} AlikeGenerator AgreeMask mask-clean.Post (λ κs a. counted_of a.0.now) (λ κs a. (a.1.1.0, a.1.0.now))
+    (λ κs r s. told r s.0.now s.1.0.now)
 same-mask-clean κs κs' a a' r r' s s' =
     as-told AlikeGenerator AgreeMask (λ (h : Counted Held) (x : ℕ × List ℕ). clean_outcome h x.0 x.1) (λ h k x e. clean-agrees e x.0 x.1)
 
 -- updates of tags
-pub same-zuc128-update : SameAnswers AlikeTag AgreeUpdate zuc128-update.Post (λ κs a. tagged_of-128 a.0) (λ κs a. a.1.0.now) (λ κs r s. update_told-128 r)
+pub same-zuc128-update : SameAnswers AlikeTag AgreeUpdate zuc128-update.Post (λ κs a. tagged_of-128 a.0.now) (λ κs a. a.1.0.now) (λ κs r s. update_told r (tagged_of-128 s.0.now))
 same-zuc128-update κs κs' a a' r r' s s' =
     as-told AlikeTag AgreeUpdate (λ (t : Counted Stored). update_outcome (tag_formed formed-128 t) t) (λ t u m e. update_agrees e formed-128 (same-formed-128 e.held) m)
 
-pub same-zuc256-update : SameAnswers AlikeTag AgreeUpdate zuc256-update.Post (λ κs a. tagged_of-256 a.0) (λ κs a. a.1.0.now) (λ κs r s. update_told-256 r)
+pub same-zuc256-update : SameAnswers AlikeTag AgreeUpdate zuc256-update.Post (λ κs a. tagged_of-256 a.0.now) (λ κs a. a.1.0.now) (λ κs r s. update_told r (tagged_of-256 s.0.now))
 same-zuc256-update κs κs' a a' r r' s s' =
     as-told AlikeTag AgreeUpdate (λ (t : Counted Stored). update_outcome (tag_formed formed t) t) (λ t u m e. update_agrees e formed (same-formed e.held) m)
 
 -- closings
-pub same-zuc128-finish : SameAnswers {Rest = List ℕ × ℕ} AlikeTag AgreeClosing zuc128-finish.Post (λ κs a. tagged_of-128 a.0)
-    (λ κs a. (a.1.0.now, a.1.1.0)) (λ κs r s. finish_told-128 r)
+pub same-zuc128-finish : SameAnswers {Rest = List ℕ × ℕ} AlikeTag AgreeClosing zuc128-finish.Post (λ κs a. tagged_of-128 a.0.now)
+    (λ κs a. (a.1.0.now, a.1.1.0)) (λ κs r s. finish_told 0 r (tagged_of-128 s.0.now))
 same-zuc128-finish κs κs' a a' r r' s s' =
     as-told AlikeTag AgreeClosing (λ (t : Counted Stored) (x : List ℕ × ℕ). finish_outcome-128 t x.0 x.1) (λ t u x e. finish-128-agrees e x.0 x.1)
 
-pub same-zuc256-finish : SameAnswers {Rest = List ℕ × ℕ} AlikeTag AgreeClosing zuc256-finish.Post (λ κs a. tagged_of-256 a.0)
-    (λ κs a. (a.1.0.now, a.1.1.0)) (λ κs r s. finish_told-256 r)
+pub same-zuc256-finish : SameAnswers {Rest = List ℕ × ℕ} AlikeTag AgreeClosing zuc256-finish.Post (λ κs a. tagged_of-256 a.0.now)
+    (λ κs a. (a.1.0.now, a.1.1.0)) (λ κs r s. finish_told no_words r (tagged_of-256 s.0.now))
 same-zuc256-finish κs κs' a a' r r' s s' =
     as-told AlikeTag AgreeClosing (λ (t : Counted Stored) (x : List ℕ × ℕ). finish_outcome-256 t x.0 x.1) (λ t u x e. finish-256-agrees e x.0 x.1)

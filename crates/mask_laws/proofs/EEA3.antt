@@ -28,10 +28,10 @@ use Rattle.mask.proofs.mask_crate.Reads as mask-crate
 use Rattle.mask_laws.proofs.Accepted.{mask-exactly, mask_is, told_is, told-passes}
 
 -- the promises of both modes are the equations that the theorems ask for
-pub called-mask-crate : Says mask-crate.Post (λ κs a r s. told r s.1.0.now ≡ crate_outcome (counted_of a.0) a.1.1.0 a.1.0.now)
+pub called-mask-crate : Says mask-crate.Post (λ κs a r s. told r s.0.now s.1.0.now ≡ crate_outcome (counted_of a.0.now) a.1.1.0 a.1.0.now)
 called-mask-crate κs a r s p = p
 
-pub called-mask-clean : Says mask-clean.Post (λ κs a r s. told r s.1.0.now ≡ clean_outcome (counted_of a.0) a.1.1.0 a.1.0.now)
+pub called-mask-clean : Says mask-clean.Post (λ κs a r s. told r s.0.now s.1.0.now ≡ clean_outcome (counted_of a.0.now) a.1.1.0 a.1.0.now)
 called-mask-clean κs a r s p = p
 
 module _ (count bearer direction : ℕ) (key : List ℕ) where
