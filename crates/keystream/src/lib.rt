@@ -8,9 +8,7 @@ ghost use Rattle.standard.proofs.Cells.{Cells};
 ghost use Rattle.zuc.specs.Reading.{counted_of, loaded_of};
 
 use words::has_left;
-use zuc::boxes::{s0, s1};
 use zuc::{Generator, Loaded, Zuc, is_formed};
-use zuc_turn::raised;
 
 pub mod eea3;
 pub mod zuc128;
@@ -86,9 +84,7 @@ fn started_from(loaded: Loaded) -> Start
     requires { Cells loaded.s }
     ensures { start_told result ≡ accepted_start (loaded_of loaded) }
 {
-    let high = raised();
-    let low = s1();
-    let z = zuc_bulk::startup::init(&high, &low, loaded);
+    let z = zuc_bulk::startup::init(loaded);
     Start {
         answer: StartAnswer::Started,
         state: Generator { z, count: 0 },
@@ -112,9 +108,7 @@ pub fn generate(state: Generator) -> Drew
             state,
         };
     }
-    let t0 = s0();
-    let t1 = s1();
-    let drawn = zuc::draw(&t0, &t1, state.z);
+    let drawn = zuc::draw(state.z);
     let z = drawn.next;
     Drew {
         answer: DrawAnswer::Word(drawn.word),
@@ -152,9 +146,7 @@ pub fn fill(state: Generator, buffer: &mut [u32]) -> Filling
             state,
         };
     }
-    let high = raised();
-    let low = s1();
-    let z = zuc_bulk::words_into(&high, &low, state.z, buffer);
+    let z = zuc_bulk::words_into(state.z, buffer);
     Filling {
         answer: FillAnswer::Filled,
         state: Generator {

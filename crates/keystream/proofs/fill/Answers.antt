@@ -30,7 +30,7 @@ returns-then-not-has_left c =
 
 pub words_into-z-requires : goal.words_into-z-requires
 words_into-z-requires c =
-    record { high = c.raised-high.ensures; low = c.s1-low.ensures; ready = (formed-ready _ (search rules) (sym c.is_formed.ensures ∙ not-false c.is_formed.result c.if-not-is_formed.false-raw)).0 }
+    (formed-ready _ (search rules) (sym c.is_formed.ensures ∙ not-false c.is_formed.result c.if-not-is_formed.false-raw)).0
 
 pub overflow_add-result : goal.overflow_add-result
 overflow_add-result c =

@@ -29,7 +29,7 @@ returns-then-not-has_left c =
 
 pub draw-drawn-requires : goal.draw-drawn-requires
 draw-drawn-requires c =
-    (c.s0-t0.ensures, (c.s1-t1.ensures, (formed-ready _ (search rules) (sym c.is_formed.ensures ∙ not-false c.is_formed.result c.if-not-is_formed.false-raw)).0))
+    (formed-ready _ (search rules) (sym c.is_formed.ensures ∙ not-false c.is_formed.result c.if-not-is_formed.false-raw)).0
 
 pub overflow_add-result : goal.overflow_add-result
 overflow_add-result c =
