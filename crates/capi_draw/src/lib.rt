@@ -9,8 +9,7 @@ ghost use Rattle.standard.specs.Generator.{word};
 ghost use Rattle.standard.specs.States.{drawn_on, generator_formed, limit, words_to_draw};
 ghost use Rattle.standard.specs.Notation.{◌⟨◌⟩};
 
-use zuc::{cells_formed, new_cell, reorganized};
-use zuc_look::f;
+use zuc::{cells_formed, f, new_cell, reorganized};
 
 // The words of a start (request 2026-09), as a word of the array.
 const LIMIT: u32 = 134217730;

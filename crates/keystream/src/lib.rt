@@ -10,9 +10,7 @@ ghost use Rattle.zuc.specs.Reading.{counted_of, loaded_of};
 
 use refusals::Refusal;
 use words::has_left;
-use zuc::boxes::{s0, s1};
 use zuc::{Generator, Loaded, is_formed};
-use zuc_turn::raised;
 
 pub mod eea3;
 pub mod zuc128;
@@ -30,10 +28,10 @@ fn started_from(loaded: Loaded) -> Generator
     requires { Cells loaded.s }
     ensures { counted_of result ≡ from_start (from_zero (started (loaded_of loaded))) }
 {
-    let high = raised();
-    let low = s1();
-    let z = zuc_bulk::startup::init(&high, &low, loaded);
-    Generator { z, count: 0 }
+    Generator {
+        z: zuc_bulk::startup::init(loaded),
+        count: 0,
+    }
 }
 
 // The next word of the keystream, or BadState, Spent: then the generator stays as it came.
@@ -47,9 +45,7 @@ pub fn generate_in_place(g: &mut Generator) -> Result<u32, Refusal>
     if !has_left(g.count, 1) {
         return Err(Refusal::Spent);
     }
-    let t0 = s0();
-    let t1 = s1();
-    let drawn = zuc::draw(&t0, &t1, g.z);
+    let drawn = zuc::draw(g.z);
     g.z = drawn.next;
     g.count += 1;
     Ok(drawn.word)
@@ -76,9 +72,7 @@ pub fn fill(g: &mut Generator, buffer: &mut [u32]) -> Result<(), Refusal>
     if !has_left(g.count, n) {
         return Err(Refusal::Spent);
     }
-    let high = raised();
-    let low = s1();
-    g.z = zuc_bulk::words_into(&high, &low, g.z, buffer);
+    g.z = zuc_bulk::words_into(g.z, buffer);
     g.count += n;
     Ok(())
 }

@@ -2,14 +2,12 @@
 #![tactic(auto)]
 
 ghost use Rattle.std.specs.Prelude.{length, ◌≡◌, ℕ, ◌*◌, ◌≤◌};
-ghost use Rattle.standard.specs.Boxes.{S₀-table, S₁-table};
 ghost use Rattle.mac_registers.specs.InnerBlocks.{Blocks};
 ghost use Rattle.mac_registers.specs.Stored.{packed, tagging_of};
 ghost use Rattle.mac_registers.specs.Inner.{Width};
 ghost use Rattle.mac_registers.specs.InnerOpen.{AtRest, Opened, Stands, stored_at};
 ghost use Rattle.mac_registers.specs.Tagging.{updated};
 ghost use Rattle.mac_blocks.specs.InnerWhole.{Portion, fed_by};
-ghost use Rattle.zuc_turn.specs.InnerRun.{raised_of};
 
 use mac_registers::{Moved, Open, fresh_at, key_on, tag_with};
 use zuc_bulk::{index_after, words_on};
@@ -45,16 +43,7 @@ fn feed_all(width: usize, key: [u64; 4], tag: [u64; 2], words: &[u32], part: &[u
 }
 
 // Whole blocks, at most 256 bytes, where nothing waits.
-fn feed(
-    high: &[u16; 256],
-    low: &[u8; 256],
-    run: &mut [u32],
-    pairs: &mut [u32],
-    o: Open,
-    part: &[u8],
-) -> Open
-    requires high { high.now ≡ raised_of S₀-table }
-    requires low { low.now ≡ S₁-table }
+fn feed(run: &mut [u32], pairs: &mut [u32], o: Open, part: &[u8]) -> Open
     requires opened { Opened run.old pairs.old o }
     requires blocks { (o.cnt ≡ 0) × (length part.now ≤ 256) × ((n : ℕ) × (length part.now ≡ n * o.width)) }
     ensures { Stands run.new pairs.new result (packed o.width (updated (o.width * 8) (tagging_of (stored_at run.old o)) part.now)) × (result.cnt ≡ 0) }
@@ -65,7 +54,7 @@ fn feed(
     let h = o.h;
     let n = part.len() / 4;
     let mut words = [0u32; 64];
-    let next = words_on(high, low, run, pairs, h, &mut words[..n]);
+    let next = words_on(run, pairs, h, &mut words[..n]);
     let fed = feed_all(width, key, tag, &words, part);
     let moved = fed.key;
     let sum = fed.tag;
@@ -92,17 +81,7 @@ fn portion(width: usize, left: usize) -> usize
 }
 
 // Whole blocks, as many as there are, where nothing waits.
-pub fn blocks(
-    high: &[u16; 256],
-    low: &[u8; 256],
-    run: &mut [u32],
-    pairs: &mut [u32],
-    start: Open,
-    message: &[u8],
-    from: usize,
-) -> Moved
-    requires high { high.now ≡ raised_of S₀-table }
-    requires low { low.now ≡ S₁-table }
+pub fn blocks(run: &mut [u32], pairs: &mut [u32], start: Open, message: &[u8], from: usize) -> Moved
     requires opened { Opened run.old pairs.old start }
     requires aligned { (start.cnt ≡ 0) × (from ≤ length message.now) }
     ensures { AtRest run.new pairs.new result.o.h × Blocks (stored_at run.old start) message.now from (stored_at run.new result.o) result.at }
@@ -112,7 +91,7 @@ pub fn blocks(
     let mut i = from;
     while width <= message.len() - i {
         let e = i + portion(width, message.len() - i);
-        o = feed(high, low, run, pairs, o, &message[i..e]);
+        o = feed(run, pairs, o, &message[i..e]);
         i = e;
     }
     Moved { o, at: i }

@@ -2,8 +2,7 @@
 #![tactic(auto)]
 
 ghost use Rattle.std.specs.Prelude.{length, ◌≡◌, ◌%◌, ◌≤◌, ◌<◌};
-ghost use Rattle.standard.specs.Boxes.{S₀-table, S₁-table};
-ghost use Rattle.zuc_turn.specs.InnerRun.{Laid, Low, raised_of};
+ghost use Rattle.zuc_turn.specs.InnerRun.{Laid, Low};
 ghost use Rattle.mac_registers.specs.InnerBlocks.{Blocks};
 ghost use Rattle.mac_registers.specs.InnerOpen.{AtRest, Opened, stored_at};
 ghost use Rattle.mac_registers.specs.Tagging.{updated};
@@ -24,16 +23,7 @@ pub struct Narrow {
 }
 
 // At most 64 blocks of four bytes. The cells and pairs are at the front, before and after.
-fn words_32(
-    high: &[u16; 256],
-    low: &[u8; 256],
-    run: &mut [u32],
-    pairs: &mut [u32],
-    start: Narrow,
-    part: &[u8],
-) -> Narrow
-    requires high { high.now ≡ raised_of S₀-table }
-    requires low { low.now ≡ S₁-table }
+fn words_32(run: &mut [u32], pairs: &mut [u32], start: Narrow, part: &[u8]) -> Narrow
     requires laid { Laid run.old pairs.old 0 }
     requires halves { Low start.h × (start.start < 16) }
     requires part_fits { (length part.now ≤ 256) × (length part.now % 4 ≡ 0) }
@@ -47,7 +37,7 @@ fn words_32(
         let b = 4 * j;
         let e = b + 4;
         tag = tag ^ sum_32(key, &part[b..e], 0);
-        let t = turn(high, low, run, pairs, j, h);
+        let t = turn(run, pairs, j, h);
         key = joined((key % 0x1_0000_0000) as u32, t.word);
         h = t.h;
     }
@@ -62,16 +52,12 @@ fn words_32(
 
 // Whole blocks, as many as there are, where nothing waits.
 pub fn blocks_32(
-    high: &[u16; 256],
-    low: &[u8; 256],
     run: &mut [u32],
     pairs: &mut [u32],
     start: Open,
     message: &[u8],
     from: usize,
 ) -> Moved
-    requires high { high.now ≡ raised_of S₀-table }
-    requires low { low.now ≡ S₁-table }
     requires opened { Opened run.old pairs.old start }
     requires aligned { (start.cnt ≡ 0) × (from ≤ length message.now) }
     requires width_is { start.width ≡ 4 }
@@ -89,7 +75,7 @@ pub fn blocks_32(
     let mut i = from;
     while 4 <= message.len() - i {
         let e = i + smaller(256, (message.len() - i) / 4 * 4);
-        s = words_32(high, low, run, pairs, s, &message[i..e]);
+        s = words_32(run, pairs, s, &message[i..e]);
         i = e;
     }
     let last = s.h;

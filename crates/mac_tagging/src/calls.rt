@@ -12,21 +12,17 @@ ghost use Rattle.mac_registers.specs.Tagging.{begun-EIA3, begun-ZUC256, closed-E
 use super::closing::{close_128, close_256};
 use super::updates::{begin_128, begin_256, behind};
 use mac_registers::{TagState, lay, taken};
-use zuc::boxes::s1;
 use zuc::{Loaded, Zuc};
 use zuc_bulk::lay_state;
-use zuc_turn::raised;
 
 pub fn start_128(g: Zuc) -> TagState
     requires { Ready (held_of g) }
     ensures { stored_of result ≡ packed 4 (begun-EIA3 (held_of g)) }
 {
-    let high = raised();
-    let low = s1();
     let mut run = [0u32; 80];
     let mut pairs = [0u32; 80];
     let h = lay_state(g, &mut run, &mut pairs);
-    let o = begin_128(&high, &low, &mut run, &mut pairs, h, g.start);
+    let o = begin_128(&mut run, &mut pairs, h, g.start);
     taken(&run, o)
 }
 
@@ -35,12 +31,10 @@ pub fn start_256(width: usize, g: Zuc) -> TagState
     requires ready { Ready (held_of g) }
     ensures { stored_of result ≡ packed width (begun-ZUC256 (width * 8) (held_of g)) }
 {
-    let high = raised();
-    let low = s1();
     let mut run = [0u32; 80];
     let mut pairs = [0u32; 80];
     let h = lay_state(g, &mut run, &mut pairs);
-    let o = begin_256(&high, &low, &mut run, &mut pairs, h, g.start, width);
+    let o = begin_256(&mut run, &mut pairs, h, g.start, width);
     taken(&run, o)
 }
 
@@ -73,12 +67,10 @@ pub fn update(s: TagState, message: &[u8]) -> TagState
     if message.len() < s.width - s.cnt {
         return put_by(s, message);
     }
-    let high = raised();
-    let low = s1();
     let mut run = [0u32; 80];
     let mut pairs = [0u32; 80];
     let o = lay(s, &mut run, &mut pairs);
-    let e = super::updates::update(&high, &low, &mut run, &mut pairs, o, message);
+    let e = super::updates::update(&mut run, &mut pairs, o, message);
     taken(&run, e)
 }
 
@@ -88,12 +80,10 @@ pub fn finish_128(s: TagState, tail: &[u8], l: usize) -> u32
     requires bits_fit { l ≤ length tail.now * 8 }
     ensures { result ≡ closed-EIA3 (tagging_of (stored_of s)) tail.now l }
 {
-    let high = raised();
-    let low = s1();
     let mut run = [0u32; 80];
     let mut pairs = [0u32; 80];
     let o = lay(s, &mut run, &mut pairs);
-    close_128(&high, &low, &mut run, &mut pairs, o, tail, l)
+    close_128(&mut run, &mut pairs, o, tail, l)
 }
 
 pub fn finish_256(s: TagState, tail: &[u8], l: usize) -> [u64; 2]
@@ -101,12 +91,10 @@ pub fn finish_256(s: TagState, tail: &[u8], l: usize) -> [u64; 2]
     requires bits_fit { l ≤ length tail.now * 8 }
     ensures { result ≡ tag_words s.width (closed-ZUC256 (s.width * 8) (tagging_of (stored_of s)) tail.now l) }
 {
-    let high = raised();
-    let low = s1();
     let mut run = [0u32; 80];
     let mut pairs = [0u32; 80];
     let o = lay(s, &mut run, &mut pairs);
-    close_256(&high, &low, &mut run, &mut pairs, o, tail, l)
+    close_256(&mut run, &mut pairs, o, tail, l)
 }
 
 // A whole message, from loaded cells on: no state is written between, and nothing is taken back.
@@ -115,13 +103,11 @@ pub fn once_128(loaded: Loaded, message: &[u8], l: usize) -> u32
     requires bits_fit { l ≤ length message.now * 8 }
     ensures { result ≡ closed-EIA3 (begun-EIA3 (from_zero (started (loaded_of loaded)))) message.now l }
 {
-    let high = raised();
-    let low = s1();
     let mut run = [0u32; 80];
     let mut pairs = [0u32; 80];
-    let h = zuc_bulk::startup::begin(&high, &low, loaded, &mut run, &mut pairs);
-    let o = begin_128(&high, &low, &mut run, &mut pairs, h, 0);
-    close_128(&high, &low, &mut run, &mut pairs, o, message, l)
+    let h = zuc_bulk::startup::begin(loaded, &mut run, &mut pairs);
+    let o = begin_128(&mut run, &mut pairs, h, 0);
+    close_128(&mut run, &mut pairs, o, message, l)
 }
 
 // The same from a started state.
@@ -131,11 +117,9 @@ pub fn once_256(width: usize, g: Zuc, message: &[u8], l: usize) -> [u64; 2]
     requires bits_fit { l ≤ length message.now * 8 }
     ensures { result ≡ tag_words width (closed-ZUC256 (width * 8) (begun-ZUC256 (width * 8) (held_of g)) message.now l) }
 {
-    let high = raised();
-    let low = s1();
     let mut run = [0u32; 80];
     let mut pairs = [0u32; 80];
     let h = lay_state(g, &mut run, &mut pairs);
-    let o = begin_256(&high, &low, &mut run, &mut pairs, h, g.start, width);
-    close_256(&high, &low, &mut run, &mut pairs, o, message, l)
+    let o = begin_256(&mut run, &mut pairs, h, g.start, width);
+    close_256(&mut run, &mut pairs, o, message, l)
 }

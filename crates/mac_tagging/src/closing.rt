@@ -1,12 +1,10 @@
 // Closing a tag: a set bit after the message's bits stands for the last window, so that the last block goes the way of the others.
 ghost use Rattle.std.specs.Prelude.{drop, length, set, ◌≡◌, ◌+◌, ◌-◌, ◌*◌, ◌/◌, ◌<◌, ◌≤◌, ◌^◌};
-ghost use Rattle.standard.specs.Boxes.{S₀-table, S₁-table};
 ghost use Rattle.mac_registers.specs.Stored.{tag_words, tagging_of};
 ghost use Rattle.mac_registers.specs.Inner.{Width, last_byte};
 ghost use Rattle.mac_registers.specs.InnerOpen.{Opened, stored_at};
 ghost use Rattle.mac_registers.specs.Tagging.{closed-EIA3, closed-ZUC256, extra_word};
 ghost use Rattle.mac_tagging.specs.InnerSteps.{Closes};
-ghost use Rattle.zuc_turn.specs.InnerRun.{raised_of};
 
 use super::updates::update;
 use mac_registers::{Open, tag_with};
@@ -48,37 +46,18 @@ fn last_tag(o: Open, tail: &[u8], q: usize, r: usize) -> [u64; 2]
 }
 
 // The closing of a ZUC-256 tag by l bits of a tail.
-pub fn close_256(
-    high: &[u16; 256],
-    low: &[u8; 256],
-    run: &mut [u32],
-    pairs: &mut [u32],
-    o: Open,
-    tail: &[u8],
-    l: usize,
-) -> [u64; 2]
-    requires high { high.now ≡ raised_of S₀-table }
-    requires low { low.now ≡ S₁-table }
+pub fn close_256(run: &mut [u32], pairs: &mut [u32], o: Open, tail: &[u8], l: usize) -> [u64; 2]
     requires opened { Opened run.old pairs.old o }
     requires bits_fit { l ≤ length tail.now * 8 }
     ensures { result ≡ tag_words o.width (closed-ZUC256 (o.width * 8) (tagging_of (stored_at run.old o)) tail.now l) }
 {
     let q = l / 8;
-    let e = update(high, low, run, pairs, o, &tail[..q]);
+    let e = update(run, pairs, o, &tail[..q]);
     last_tag(e, tail, q, l % 8)
 }
 
 // The extra word of ZUC-128 and EIA3 with n bits left over; after it the run is of no more use.
-fn extra(
-    high: &[u16; 256],
-    low: &[u8; 256],
-    run: &mut [u32],
-    pairs: &mut [u32],
-    o: Open,
-    n: usize,
-) -> u32
-    requires high { high.now ≡ raised_of S₀-table }
-    requires low { low.now ≡ S₁-table }
+fn extra(run: &mut [u32], pairs: &mut [u32], o: Open, n: usize) -> u32
     requires opened { Opened run.old pairs.old o }
     requires width_is { o.width ≡ 4 }
     ensures { result ≡ extra_word (tagging_of (stored_at run.old o)) n }
@@ -89,22 +68,12 @@ fn extra(
         return (key[0] % 0x1_0000_0000) as u32;
     }
     let mut word = [0u32; 1];
-    words_on(high, low, run, pairs, h, &mut word);
+    words_on(run, pairs, h, &mut word);
     word[0]
 }
 
 // The closing of a ZUC-128 or EIA3 tag.
-pub fn close_128(
-    high: &[u16; 256],
-    low: &[u8; 256],
-    run: &mut [u32],
-    pairs: &mut [u32],
-    o: Open,
-    tail: &[u8],
-    l: usize,
-) -> u32
-    requires high { high.now ≡ raised_of S₀-table }
-    requires low { low.now ≡ S₁-table }
+pub fn close_128(run: &mut [u32], pairs: &mut [u32], o: Open, tail: &[u8], l: usize) -> u32
     requires opened { Opened run.old pairs.old o }
     requires width_is { o.width ≡ 4 }
     requires bits_fit { l ≤ length tail.now * 8 }
@@ -112,8 +81,8 @@ pub fn close_128(
 {
     let q = l / 8;
     let r = l % 8;
-    let e = update(high, low, run, pairs, o, &tail[..q]);
+    let e = update(run, pairs, o, &tail[..q]);
     let tag = last_tag(e, tail, q, r);
-    let word = extra(high, low, run, pairs, e, e.cnt * 8 + r);
+    let word = extra(run, pairs, e, e.cnt * 8 + r);
     (tag[0] as u32) ^ word
 }

@@ -1,14 +1,12 @@
 // Starts and updates, on a run that stands from the beginning of a call to its end.
 ghost use Rattle.std.specs.Prelude.{length, ◌≡◌, ◌+◌, ◌*◌, ◌≤◌, ◌<◌};
 ghost use Rattle.std.proofs.Math.Seq.{paste};
-ghost use Rattle.standard.specs.Boxes.{S₀-table, S₁-table};
 ghost use Rattle.mac_registers.specs.InnerBlocks.{Blocks};
 ghost use Rattle.mac_registers.specs.Stored.{packed, tagging_of};
 ghost use Rattle.mac_registers.specs.Inner.{Width};
 ghost use Rattle.mac_registers.specs.InnerOpen.{AtRest, Opened, Stands, held_on, stored_at};
 ghost use Rattle.mac_registers.specs.Tagging.{begun-EIA3, begun-ZUC256, updated};
 ghost use Rattle.mac_tagging.specs.InnerSteps.{Topped, Waits};
-ghost use Rattle.zuc_turn.specs.InnerRun.{raised_of};
 
 use mac_blocks::blocks;
 use mac_narrow::blocks_32;
@@ -17,22 +15,13 @@ use zuc_bulk::{index_after, words_on};
 use zuc_turn::Halves;
 
 // No tag yet, and a key pair of the first words.
-pub fn begin_128(
-    high: &[u16; 256],
-    low: &[u8; 256],
-    run: &mut [u32],
-    pairs: &mut [u32],
-    h: Halves,
-    start: usize,
-) -> Open
-    requires high { high.now ≡ raised_of S₀-table }
-    requires low { low.now ≡ S₁-table }
+pub fn begin_128(run: &mut [u32], pairs: &mut [u32], h: Halves, start: usize) -> Open
     requires at_rest { AtRest run.old pairs.old h }
     requires start_fits { start < 16 }
     ensures { Stands run.new pairs.new result (packed 4 (begun-EIA3 (held_on run.old h start))) }
 {
     let mut words = [0u32; 2];
-    let next = words_on(high, low, run, pairs, h, &mut words);
+    let next = words_on(run, pairs, h, &mut words);
     let key = key_at(4, &words, 0);
     Open {
         h: next,
@@ -46,17 +35,7 @@ pub fn begin_128(
 }
 
 // The first words as the tag, and a key pair of those after them: all are drawn at once.
-pub fn begin_256(
-    high: &[u16; 256],
-    low: &[u8; 256],
-    run: &mut [u32],
-    pairs: &mut [u32],
-    h: Halves,
-    start: usize,
-    width: usize,
-) -> Open
-    requires high { high.now ≡ raised_of S₀-table }
-    requires low { low.now ≡ S₁-table }
+pub fn begin_256(run: &mut [u32], pairs: &mut [u32], h: Halves, start: usize, width: usize) -> Open
     requires at_rest { AtRest run.old pairs.old h }
     requires start_fits { start < 16 }
     requires width_fits { Width width }
@@ -64,7 +43,7 @@ pub fn begin_256(
 {
     let n = width / 4 * 3;
     let mut words = [0u32; 12];
-    let next = words_on(high, low, run, pairs, h, &mut words[..n]);
+    let next = words_on(run, pairs, h, &mut words[..n]);
     let tag = fresh_at(width, &words, 0);
     let key = key_at(width, &words, width / 4);
     Open {
@@ -113,36 +92,19 @@ fn wait(o: Open, bytes: &[u8]) -> Open
 }
 
 // Whole blocks, as many as there are, where nothing waits.
-fn whole(
-    high: &[u16; 256],
-    low: &[u8; 256],
-    run: &mut [u32],
-    pairs: &mut [u32],
-    o: Open,
-    message: &[u8],
-    from: usize,
-) -> Moved
-    requires { (high.now ≡ raised_of S₀-table) × ((low.now ≡ S₁-table) × ((Opened run.old pairs.old o) × ((o.cnt ≡ 0) × (from ≤ length message.now)))) }
+fn whole(run: &mut [u32], pairs: &mut [u32], o: Open, message: &[u8], from: usize) -> Moved
+    requires { (Opened run.old pairs.old o) × ((o.cnt ≡ 0) × (from ≤ length message.now)) }
     ensures { AtRest run.new pairs.new result.o.h × Blocks (stored_at run.old o) message.now from (stored_at run.new result.o) result.at }
 {
     let width = o.width;
     if width == 4 {
-        return blocks_32(high, low, run, pairs, o, message, from);
+        return blocks_32(run, pairs, o, message, from);
     }
-    blocks(high, low, run, pairs, o, message, from)
+    blocks(run, pairs, o, message, from)
 }
 
 // The bytes that a block lacks: it is fed, and nothing waits.
-fn complete(
-    high: &[u16; 256],
-    low: &[u8; 256],
-    run: &mut [u32],
-    pairs: &mut [u32],
-    o: Open,
-    bytes: &[u8],
-) -> Open
-    requires high { high.now ≡ raised_of S₀-table }
-    requires low { low.now ≡ S₁-table }
+fn complete(run: &mut [u32], pairs: &mut [u32], o: Open, bytes: &[u8]) -> Open
     requires opened { Opened run.old pairs.old o }
     requires fills { o.cnt + length bytes.now ≡ o.width }
     ensures { Stands run.new pairs.new result (packed o.width (updated (o.width * 8) (tagging_of (stored_at run.old o)) bytes.now)) × (result.cnt ≡ 0) }
@@ -162,21 +124,12 @@ fn complete(
         cnt: 0,
         width,
     };
-    let r = whole(high, low, run, pairs, empty, &full[..width], 0);
+    let r = whole(run, pairs, empty, &full[..width], 0);
     r.o
 }
 
 // What waits is completed, where something waits.
-fn top_up(
-    high: &[u16; 256],
-    low: &[u8; 256],
-    run: &mut [u32],
-    pairs: &mut [u32],
-    o: Open,
-    message: &[u8],
-) -> Moved
-    requires high { high.now ≡ raised_of S₀-table }
-    requires low { low.now ≡ S₁-table }
+fn top_up(run: &mut [u32], pairs: &mut [u32], o: Open, message: &[u8]) -> Moved
     requires opened { Opened run.old pairs.old o }
     requires fills { o.width ≤ o.cnt + length message.now }
     ensures { Topped run.old o message.now run.new pairs.new result }
@@ -186,30 +139,21 @@ fn top_up(
         return Moved { o, at: 0 };
     }
     let at = o.width - cnt;
-    let next = complete(high, low, run, pairs, o, &message[..at]);
+    let next = complete(run, pairs, o, &message[..at]);
     Moved { o: next, at }
 }
 
 // First the block that waits, then whole blocks; the rest waits.
-pub fn update(
-    high: &[u16; 256],
-    low: &[u8; 256],
-    run: &mut [u32],
-    pairs: &mut [u32],
-    o: Open,
-    message: &[u8],
-) -> Open
-    requires high { high.now ≡ raised_of S₀-table }
-    requires low { low.now ≡ S₁-table }
-    requires opened { Opened run.old pairs.old o }
+pub fn update(run: &mut [u32], pairs: &mut [u32], o: Open, message: &[u8]) -> Open
+    requires { Opened run.old pairs.old o }
     ensures { Stands run.new pairs.new result (packed o.width (updated (o.width * 8) (tagging_of (stored_at run.old o)) message.now)) }
 {
     if message.len() < o.width - o.cnt {
         return wait(o, message);
     }
-    let topped = top_up(high, low, run, pairs, o, message);
+    let topped = top_up(run, pairs, o, message);
     let first = topped.o;
-    let fed = whole(high, low, run, pairs, first, message, topped.at);
+    let fed = whole(run, pairs, first, message, topped.at);
     let last = fed.o;
     let at = fed.at;
     wait(last, &message[at..])

@@ -5,22 +5,20 @@ ghost use Rattle.std.specs.Prelude.{false, ◌≡◌, ◌≤◌, ◌*◌, ◌+�
 ghost use Rattle.mask.specs.Inner.{Enough, InPlace, Reaches, cleared, drawn_from, end_of, zeroed};
 ghost use Rattle.mask.specs.Modes.{mask_outcome};
 ghost use Rattle.mask.specs.Outcome.{told, crate_outcome, clean_outcome};
-ghost use Rattle.standard.specs.Boxes.{S₀-table, S₁-table};
 ghost use Rattle.standard.specs.Confidentiality.{mask_clean};
 ghost use Rattle.standard.specs.Generator.{after, word_at};
 ghost use Rattle.standard.specs.Notation.{each_from};
 ghost use Rattle.standard.specs.States.{moved};
 ghost use Rattle.zuc.specs.Reading.{counted_of, held_of};
-ghost use Rattle.zuc_turn.specs.InnerRun.{Laid, Low, Standing, raised_of, state_at};
+ghost use Rattle.zuc_turn.specs.InnerRun.{Laid, Low, Standing, state_at};
 
 use mask_bulk::mask_on;
 use refusals::Refusal;
 use words::keep_high;
-use zuc::boxes::s1;
 use zuc::{Generator, Loaded, Zuc};
 use zuc_bulk::startup::begin;
 use zuc_bulk::{index_after, lay_state, state_of};
-use zuc_turn::{Halves, raised};
+use zuc_turn::Halves;
 
 pub mod eea3;
 
@@ -78,8 +76,6 @@ fn reach_of(clean: bool, bits: usize, n: usize) -> Reach
 
 // Both modes' mask, on a run that stands at 0.
 fn mask_standing(
-    high: &[u16; 256],
-    low: &[u8; 256],
     run: &mut [u32],
     pairs: &mut [u32],
     start: Halves,
@@ -87,8 +83,6 @@ fn mask_standing(
     bits: usize,
     reach: Reach,
 ) -> Halves
-    requires high { high.now ≡ raised_of S₀-table }
-    requires low { low.now ≡ S₁-table }
     requires laid { Laid run.old pairs.old 0 }
     requires halves { Low start }
     requires enough { Enough (length buf.old) bits reach }
@@ -96,22 +90,13 @@ fn mask_standing(
     ensures bytes { buf.new ≡ mask_clean (word_at (state_at run.old 0 start)) (end_of bits reach) buf.old }
 {
     let to = reach.to;
-    let h = mask_on(high, low, run, pairs, start, &mut buf[..to], reach.drawn);
+    let h = mask_on(run, pairs, start, &mut buf[..to], reach.drawn);
     keep_bits(buf, bits / 8, reach.kept);
     h
 }
 
 // A run that stands at 0 for a state, or, where the cells are fresh from a load, for what start-up makes of them.
-fn lay_on(
-    high: &[u16; 256],
-    low: &[u8; 256],
-    fresh: bool,
-    z: Zuc,
-    run: &mut [u32],
-    pairs: &mut [u32],
-) -> Halves
-    requires high { high.now ≡ raised_of S₀-table }
-    requires low { low.now ≡ S₁-table }
+fn lay_on(fresh: bool, z: Zuc, run: &mut [u32], pairs: &mut [u32]) -> Halves
     requires room { (length run.old ≡ 80) × (length pairs.old ≡ 80) }
     requires in_place { InPlace fresh z }
     ensures { Standing run.new pairs.new 0 result (drawn_from fresh z) }
@@ -123,7 +108,7 @@ fn lay_on(
             r1: z.r1,
             r2: z.r2,
         };
-        return begin(high, low, loaded, run, pairs);
+        return begin(loaded, run, pairs);
     }
     lay_state(z, run, pairs)
 }
@@ -136,12 +121,10 @@ fn mask_from(fresh: bool, z: Zuc, buf: &mut [u8], bits: usize, reach: Reach) -> 
     ensures state { fresh ≡ false → held_of result ≡ moved reach.drawn (held_of z) }
     ensures bytes { buf.new ≡ mask_clean (word_at (drawn_from fresh z)) (end_of bits reach) buf.old }
 {
-    let high = raised();
-    let low = s1();
     let mut run = [0u32; 80];
     let mut pairs = [0u32; 80];
-    let laid = lay_on(&high, &low, fresh, z, &mut run, &mut pairs);
-    let h = mask_standing(&high, &low, &mut run, &mut pairs, laid, buf, bits, reach);
+    let laid = lay_on(fresh, z, &mut run, &mut pairs);
+    let h = mask_standing(&mut run, &mut pairs, laid, buf, bits, reach);
     if fresh {
         return z;
     }

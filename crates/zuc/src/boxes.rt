@@ -1,12 +1,12 @@
 // The substitution boxes.
-ghost use Rattle.std.specs.Prelude.{◌≡◌, slice_index};
-ghost use Rattle.standard.specs.Boxes.{S₀-table, S₁-table};
+ghost use Rattle.std.specs.Prelude.{◌≡◌};
+ghost use Rattle.standard.specs.Boxes.{S₀, S₁};
 ghost use Rattle.standard.specs.Generator.{S};
 
 use words::word_of;
 
 // The box S0.
-const S0: [u8; 256] = [
+static S0: [u8; 256] = [
     0x3e, 0x72, 0x5b, 0x47, 0xca, 0xe0, 0x0, 0x33, 0x4, 0xd1, 0x54, 0x98, 0x9, 0xb9, 0x6d, 0xcb,
     0x7b, 0x1b, 0xf9, 0x32, 0xaf, 0x9d, 0x6a, 0xa5, 0xb8, 0x2d, 0xfc, 0x1d, 0x8, 0x53, 0x3, 0x90,
     0x4d, 0x4e, 0x84, 0x99, 0xe4, 0xce, 0xd9, 0x91, 0xdd, 0xb6, 0x85, 0x48, 0x8b, 0x29, 0x6e, 0xac,
@@ -26,7 +26,7 @@ const S0: [u8; 256] = [
 ];
 
 // The box S1.
-const S1: [u8; 256] = [
+static S1: [u8; 256] = [
     0x55, 0xc2, 0x63, 0x71, 0x3b, 0xc8, 0x47, 0x86, 0x9f, 0x3c, 0xda, 0x5b, 0x29, 0xaa, 0xfd, 0x77,
     0x8c, 0xc5, 0x94, 0xc, 0xa6, 0x1a, 0x13, 0x0, 0xe3, 0xa8, 0x16, 0x72, 0x40, 0xf9, 0xf8, 0x42,
     0x44, 0x26, 0x68, 0x96, 0x81, 0xd9, 0x45, 0x3e, 0x10, 0x76, 0xc6, 0xa7, 0x8b, 0x39, 0x43, 0xe1,
@@ -45,36 +45,28 @@ const S1: [u8; 256] = [
     0x64, 0xbe, 0x85, 0x9b, 0x2f, 0x59, 0x8a, 0xd7, 0xb0, 0x25, 0xac, 0xaf, 0x12, 0x3, 0xe2, 0xf2,
 ];
 
-// The boxes, to be lent. A constant is dear to prove wherever it is named: here once.
-pub fn s0() -> [u8; 256]
-    ensures { result ≡ S₀-table }
+// The entry of each box at a byte.
+pub fn s0(b: u8) -> u8
+    ensures { result ≡ S₀ b }
 {
-    S0
+    S0[b as usize]
 }
 
-pub fn s1() -> [u8; 256]
-    ensures { result ≡ S₁-table }
+pub fn s1(b: u8) -> u8
+    ensures { result ≡ S₁ b }
 {
-    S1
-}
-
-// The entry of a box at a byte.
-pub fn entry(table: &[u8; 256], b: u8) -> u8
-    ensures { result ≡ slice_index table.now b }
-{
-    table[b as usize]
+    S1[b as usize]
 }
 
 // S: the boxes S0, S1, S0, S1 on the bytes of x, highest first.
-pub fn sbox(t0: &[u8; 256], t1: &[u8; 256], x: u32) -> u32
-    requires first_box { t0.now ≡ S₀-table }
-    requires second_box { t1.now ≡ S₁-table }
+#[tactic(auto, unfolding(standard::specs::Generator::S))]
+pub fn sbox(x: u32) -> u32
     ensures { result ≡ S x }
 {
     word_of(
-        entry(t0, ((x >> 24) % 256) as u8),
-        entry(t1, ((x >> 16) % 256) as u8),
-        entry(t0, ((x >> 8) % 256) as u8),
-        entry(t1, (x % 256) as u8),
+        s0(((x >> 24) % 256) as u8),
+        s1(((x >> 16) % 256) as u8),
+        s0(((x >> 8) % 256) as u8),
+        s1((x % 256) as u8),
     )
 }

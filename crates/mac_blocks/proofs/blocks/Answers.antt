@@ -44,7 +44,7 @@ feed-o-requires c =
     let n : c.loop-i.i + c.portion.result - c.loop-i.i ≡ c.portion.result = omega arith in
     length-take-le _ (drop c.loop-i.i m) (omega (arith, c.portion.ensures.within, length-drop c.loop-i.i m)) ∙ n in
     let f = c.portion.ensures in
-    record { high = c.requires.high; low = c.requires.low; opened = opened-as c.loop-i.invariant.3 (good-updated _ c.requires.opened.holds.good); blocks = (c.loop-i.invariant.1, omega (arith, f.most, part_length), (f.count, part_length ∙ f.whole ∙ ap (λ (w : ℕ). f.count * w) (sym same_width))) }
+    record { opened = opened-as c.loop-i.invariant.3 (good-updated _ c.requires.opened.holds.good); blocks = (c.loop-i.invariant.1, omega (arith, f.most, part_length), (f.count, part_length ∙ f.whole ∙ ap (λ (w : ℕ). f.count * w) (sym same_width))) }
 
 pub loop-i-smaller : goal.loop-i-smaller
 loop-i-smaller c =

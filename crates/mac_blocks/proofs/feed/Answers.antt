@@ -29,11 +29,6 @@ slice_bounds-words_on-end c =
     length-take-le _ zeros (omega (arith, c.requires.blocks.1)) in
     sym room
 
-pub words_on-next-requires : goal.words_on-next-requires
-words_on-next-requires c =
-    let rest = c.requires.opened.rest in
-    record { high = c.requires.high; low = c.requires.low; laid = rest.laid; halves = rest.low }
-
 pub slice_bounds-feed_all-end : goal.slice_bounds-feed_all-end
 slice_bounds-feed_all-end c =
     let room : length (take (length c.args.part.now / 4) zeros) ≡ length c.args.part.now / 4 =
@@ -44,18 +39,6 @@ slice_bounds-feed_all-end c =
     let drawn : length ys ≡ n = ap length c.words_on-next.ensures.words ∙ length-listed _ 0 _ ∙ room in
     omega (arith, length-append ys (drop n zeros), drawn, length-drop n zeros, c.requires.blocks.1) in
     sym long
-
-pub feed_all-fed-requires : goal.feed_all-fed-requires
-feed_all-fed-requires c =
-    let room : length (take (length c.args.part.now / 4) zeros) ≡ length c.args.part.now / 4 =
-    length-take-le _ zeros (omega (arith, c.requires.blocks.1)) in
-    let long : length (c.words_on-next.new.out ++ drop (length c.args.part.now / 4) zeros) ≡ 64 =
-    let n : ℕ = length c.args.part.now / 4 in
-    let ys = c.words_on-next.new.out in
-    let drawn : length ys ≡ n = ap length c.words_on-next.ensures.words ∙ length-listed _ 0 _ ∙ room in
-    omega (arith, length-append ys (drop n zeros), drawn, length-drop n zeros, c.requires.blocks.1) in
-    let v = c.requires.opened.holds.good.a-width in
-    record { width_fits = v; part_fits = (omega (arith, long, c.requires.blocks.1), c.requires.blocks.2) }
 
 pub index_after-requires : goal.index_after-requires
 unfolding tagging_of

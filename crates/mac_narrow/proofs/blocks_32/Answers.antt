@@ -1,5 +1,5 @@
 -- `blocks_32` takes in part by part: at place i the run and what the loop carries stand for the state after the bytes up to i.
-use lib.ListN.{drop, length-drop, length-take, take}
+use lib.ListN.{drop, take}
 use mathlib.Core.List.{List}
 use mathlib.Core.Path.{◌≡◌, refl, ◌∙◌, ap, sym}
 use native.Mathlib.Omega.{arith}
@@ -21,12 +21,6 @@ loop-i-init c =
     let opened = c.requires.opened in
     let none : c.args.from - c.args.from ≡ 0 = omega arith in
     (c.requires.aligned.1, (0, omega arith), record { laid = opened.rest.laid; low = opened.rest.low; start = opened.holds.good.sound.start; tagging = rw none refl })
-
-pub words_32-s-requires : goal.words_32-s-requires
-words_32-s-requires c =
-    let pre = c.requires in
-    let inv = c.loop-i.invariant in
-    record { high = pre.high; low = pre.low; laid = inv.2.laid; halves = (inv.2.low, inv.2.start); part_fits = (simp (length-take, length-drop) (omega arith), simp (length-take, length-drop) (omega arith)) }
 
 pub loop-i-preserved : goal.loop-i-preserved
 loop-i-preserved c =

@@ -1,5 +1,5 @@
 -- `words_32` takes in a block a turn: after j turns the run and the halves stand for the state after j draws, and 4 j bytes are in the tag.
-use lib.ListN.{length, length-drop, length-take}
+use lib.ListN.{length}
 use lib.Seq.{take_all}
 use mathlib.Core.Path.{◌≡◌, ◌∙◌, ap, subst, sym}
 use native.Mathlib.Omega.{arith}
@@ -27,15 +27,6 @@ loop-j-init c =
       ap (λ (k : Held). idle k c.args.start.key c.args.start.tag) (moved_none _),
     )
 
-pub sum_32-tag-requires : goal.sum_32-tag-requires
-sum_32-tag-requires c = simp (length-take, length-drop) (omega (arith, c.loop-j-test.true, c.loop-j.invariant.2))
-
-pub turn-t-requires : goal.turn-t-requires
-turn-t-requires c =
-    let inv = c.loop-j.invariant in
-    let pre = c.requires in
-    record { high = pre.high; low = pre.low; laid = inv.3.laid; halves = inv.3.low; place_fits = omega arith }
-
 pub overflow_step-j : goal.overflow_step-j
 overflow_step-j c =
     omega (arith, c.loop-j-test.true, c.loop-j.invariant.1)
@@ -57,14 +48,6 @@ loop-j-preserved c =
           c.sum_32-tag.ensures
           (turn-word σ _ _ l.j _ l.invariant.3 _ _ _ turned),
     )
-
-pub rest-requires : goal.rest-requires
-rest-requires c =
-    let laid = c.loop-j.invariant.3.laid in
-    record { room = (laid.long, laid.wide); place_fits = omega arith }
-
-pub index_after-requires : goal.index_after-requires
-index_after-requires c = c.requires.halves.1
 
 pub returns : goal.returns
 returns c =

@@ -1,12 +1,12 @@
 -- `lay_on`: start-up, or the state laid, as the test says.
 use mathlib.Core.Bool.{Bool}
 use mathlib.Core.List.{List}
-use mathlib.Core.Path.{◌≡◌, ◌∙◌, ap, subst, sym}
+use mathlib.Core.Path.{◌≡◌, ◌∙◌, ap, sym}
 use Prim.Native.Nat.{ℕ}
 use Rattle.zuc.specs.declared.Zuc.{Zuc}
 use Rattle.zuc_turn.specs.declared.Halves.{Halves}
 use Rattle.zuc_turn.specs.InnerRun.{Standing}
-use Rattle.mask.specs.Inner.{InPlace, drawn_from}
+use Rattle.mask.specs.Inner.{drawn_from}
 use Rattle.mask.proofs.lay_on.Goals as goal
 
 -- as the test came out
@@ -14,19 +14,8 @@ told : {b b' : Bool} (z : Zuc) {run pairs : List ℕ} {h : Halves} → b ≡ b' 
 told z e standing =
     record { laid = standing.laid; low = standing.low; state = standing.state ∙ ap (λ (c : Bool). drawn_from c z) (sym e) }
 
-pub begin-requires : goal.begin-requires
-begin-requires c =
-    let pre = c.requires in
-    record { high = pre.high; low = pre.low; room = pre.room; cells = (subst (λ (b : Bool). InPlace b c.args.z) c.if-fresh.true pre.in_place).0 }
-
 pub returns-then-fresh : goal.returns-then-fresh
 returns-then-fresh c = told c.args.z c.if-fresh.true c.begin.ensures
-
-pub lay_state-requires : goal.lay_state-requires
-lay_state-requires c =
-    let pre = c.requires in
-    let ready = subst (λ (b : Bool). InPlace b c.args.z) c.if-fresh.false pre.in_place in
-    record { room = pre.room; ready = record { cells = ready.0; start = ready.1 } }
 
 pub returns : goal.returns
 returns c = told c.args.z c.if-fresh.false c.lay_state.ensures

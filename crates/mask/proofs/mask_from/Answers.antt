@@ -8,11 +8,6 @@ use Rattle.zuc.specs.Reading.{held_of}
 use Rattle.mask.specs.Inner.{drawn_from, end_of}
 use Rattle.mask.proofs.mask_from.Goals as goal
 
-pub mask_standing-h-requires : goal.mask_standing-h-requires
-mask_standing-h-requires c =
-    let laid = c.lay_on-laid.ensures in
-    record { high = c.raised-high.ensures; low = c.s1-low.ensures; laid = laid.laid; halves = laid.low; enough = c.requires.enough }
-
 pub returns-then-fresh : goal.returns-then-fresh
 returns-then-fresh c =
     let masked-by : let a = c.args in
@@ -20,9 +15,6 @@ returns-then-fresh c =
     let a = c.args in
     c.mask_standing-h.ensures.bytes ∙ ap (λ (σ : State). mask_clean (word_at σ) (end_of a.bits a.reach) a.buf.now) c.lay_on-laid.ensures.state in
     record { state = λ e. cc (e, c.if-fresh.true); bytes = masked-by }
-
-pub index_after-requires : goal.index_after-requires
-index_after-requires c = c.requires.in_place.1
 
 pub returns : goal.returns
 returns c =

@@ -1,5 +1,5 @@
 -- `mask_block` draws a word a turn, as bulk's `block`, and masks its four bytes: after j turns the mask is left to do from byte 4j on.
-use lib.ListN.{length, length-drop, length-take}
+use lib.ListN.{length}
 use mathlib.Core.Path.{◌≡◌, refl, ◌∙◌, subst, sym}
 use native.Mathlib.Omega.{arith}
 use Prim.Native.Nat.{ℕ, ◌+◌, ◌*◌, ◌/◌, ◌<◌}
@@ -16,15 +16,6 @@ pub loop-j-init : goal.loop-j-init
 loop-j-init c =
     let pre = c.requires in
     (omega arith, omega (arith, pre.part_fits.0), refl, record { laid = pre.laid; low = pre.halves; state = sym (after_none _) }, refl)
-
-pub turn-t-requires : goal.turn-t-requires
-turn-t-requires c =
-    let inv = c.loop-j.invariant in
-    let pre = c.requires in
-    record { high = pre.high; low = pre.low; laid = inv.3.laid; halves = inv.3.low; place_fits = omega arith }
-
-pub xor_word-requires : goal.xor_word-requires
-xor_word-requires c = simp (length-take, length-drop) (omega arith)
 
 pub loop-j-preserved : goal.loop-j-preserved
 loop-j-preserved c =
@@ -43,11 +34,6 @@ loop-j-preserved c =
           (alone σ j (4 * j) (4 * j + 4) refl drawn (omega arith)) c.xor_word.ensures
           ∙ l.invariant.4,
     )
-
-pub rest-requires : goal.rest-requires
-rest-requires c =
-    let laid = c.loop-j.invariant.3.laid in
-    record { room = (laid.long, laid.wide); place_fits = omega arith }
 
 pub returns : goal.returns
 returns c =

@@ -18,12 +18,6 @@ loop-buf-init c =
     let pre = c.requires in
     (omega arith, refl, refl, record { laid = pre.laid; low = pre.halves; state = sym (after_none _) }, refl)
 
-pub mask_block-h-requires : goal.mask_block-h-requires
-mask_block-h-requires c =
-    let pre = c.requires in
-    let standing = c.loop-buf.invariant.3 in
-    record { high = pre.high; low = pre.low; laid = standing.laid; halves = standing.low; part_fits = (simp (length-take, length-drop) (omega arith), simp (length-take, length-drop) (omega arith)) }
-
 pub loop-buf-preserved : goal.loop-buf-preserved
 loop-buf-preserved c =
     let l = c.loop-buf in
@@ -51,20 +45,6 @@ returns-then-i-drawn c =
     let l = c.loop-buf in
     let σ : State = state_at c.args.run.now 0 c.args.start in
     record { state = subst (λ (n : ℕ). Standing l.run l.pairs 0 l.h (after n σ)) c.if-i-drawn.true l.invariant.3; bytes = sym (from_end _ l.i l.buf (omega (arith, c.requires.buf_fits.0))) ∙ l.invariant.4 ∙ from-start _ _ }
-
-pub turn-last-requires : goal.turn-last-requires
-turn-last-requires c =
-    let pre = c.requires in
-    let standing = c.loop-buf.invariant.3 in
-    record { high = pre.high; low = pre.low; laid = standing.laid; halves = standing.low; place_fits = omega arith }
-
-pub xor_rest-requires : goal.xor_rest-requires
-xor_rest-requires c = simp (length-take, length-drop) (omega arith)
-
-pub rest-requires : goal.rest-requires
-rest-requires c =
-    let laid = c.turn-last.ensures.standing.laid in
-    record { room = (laid.long, laid.wide); place_fits = omega arith }
 
 pub shape_of-run : goal.shape_of-run
 shape_of-run c = (c.rest.ensures _ _ c.turn-last.ensures.standing).laid.long ∙ sym c.requires.laid.long

@@ -9,7 +9,7 @@ use Rattle.mac_tagging.proofs.calls.finish_128.Goals as goal
 pub close_128-requires : goal.close_128-requires
 close_128-requires c =
     let laid = c.lay-o.ensures in
-    record { high = c.raised-high.ensures; low = c.s1-low.ensures; opened = opened laid c.requires.holds; width_is = ap (λ (x : Stored). x.width) laid.stored ∙ c.requires.width_is; bits_fit = c.requires.bits_fit }
+    record { opened = opened laid c.requires.holds; width_is = ap (λ (x : Stored). x.width) laid.stored ∙ c.requires.width_is; bits_fit = c.requires.bits_fit }
 
 pub returns : goal.returns
 returns c =

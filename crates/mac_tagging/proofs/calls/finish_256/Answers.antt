@@ -10,7 +10,7 @@ use Rattle.mac_tagging.proofs.calls.finish_256.Goals as goal
 pub close_256-requires : goal.close_256-requires
 close_256-requires c =
     let laid = c.lay-o.ensures in
-    record { high = c.raised-high.ensures; low = c.s1-low.ensures; opened = opened laid c.requires.holds; bits_fit = c.requires.bits_fit }
+    record { opened = opened laid c.requires.holds; bits_fit = c.requires.bits_fit }
 
 pub returns : goal.returns
 returns c =

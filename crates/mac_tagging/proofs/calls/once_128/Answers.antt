@@ -16,7 +16,7 @@ close_128-requires c =
     let k : Held = from_zero (started (loaded_of c.args.loaded)) in
     let laid = c.begin-h.ensures in
     let begun = c.begin_128-o.ensures in
-    record { high = c.raised-high.ensures; low = c.s1-low.ensures; opened = opened-as begun (good-EIA3 _ (laid-ready k laid (from-loaded (loaded_of c.args.loaded) c.requires.cells))); width_is = ap (λ (x : Stored). x.width) begun.stored; bits_fit = c.requires.bits_fit }
+    record { opened = opened-as begun (good-EIA3 _ (laid-ready k laid (from-loaded (loaded_of c.args.loaded) c.requires.cells))); width_is = ap (λ (x : Stored). x.width) begun.stored; bits_fit = c.requires.bits_fit }
 
 pub returns : goal.returns
 returns c =

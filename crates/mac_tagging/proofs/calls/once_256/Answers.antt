@@ -15,7 +15,7 @@ close_256-requires c =
     let k : Held = held_of c.args.g in
     let laid = c.lay_state-h.ensures in
     let begun = c.begin_256-o.ensures in
-    record { high = c.raised-high.ensures; low = c.s1-low.ensures; opened = opened-as begun (good-ZUC256 c.requires.width_fits _ (laid-ready k laid c.requires.ready)); bits_fit = c.requires.bits_fit }
+    record { opened = opened-as begun (good-ZUC256 c.requires.width_fits _ (laid-ready k laid c.requires.ready)); bits_fit = c.requires.bits_fit }
 
 pub returns : goal.returns
 returns c =

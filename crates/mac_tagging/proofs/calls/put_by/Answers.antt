@@ -2,17 +2,11 @@
 use mathlib.Core.List.{List}
 use mathlib.Core.Path.{ap, ◌∙◌}
 use Prim.Native.Nat.{ℕ, ◌+◌}
-use native.Mathlib.Omega.{arith}
 use lib.ListN.{length}
 use Rattle.zuc.specs.Reading.{held_of}
 use Rattle.mac_registers.specs.Stored.{stored_of}
-use Rattle.mac_registers.proofs.Packed.{width-most}
 use Rattle.mac_tagging.proofs.Bytes.{waits-are}
 use Rattle.mac_tagging.proofs.calls.put_by.Goals as goal
-
-pub behind-rem-requires : goal.behind-rem-requires
-behind-rem-requires c =
-    let p = c.requires in omega (arith, p.fits, width-most p.holds.good.a-width)
 
 pub returns : goal.returns
 returns c =

@@ -17,7 +17,7 @@ overflow_sub-s c =
 
 pub update-e-requires : goal.update-e-requires
 update-e-requires c =
-    record { high = c.raised-high.ensures; low = c.s1-low.ensures; opened = opened c.lay-o.ensures c.requires }
+    opened c.lay-o.ensures c.requires
 
 pub taken-requires : goal.taken-requires
 taken-requires c =

@@ -36,7 +36,7 @@ extra-word-requires c =
     let held : Holds (stored_at c.update-e.new.run c.update-e.result) =
     end-held c.requires.opened.holds.good c.args.tail.now c.args.l _ c.update-e.ensures.stored in
     let t = c.last_tag-tag in
-    record { high = c.requires.high; low = c.requires.low; opened = record { rest = c.update-e.ensures.rest; holds = held }; width_is = width_four c.requires.opened.holds.good c.args.tail.now c.args.l _ c.update-e.ensures.stored c.requires.width_is _ (t.ensures c.update-e.new.run held) }
+    record { opened = record { rest = c.update-e.ensures.rest; holds = held }; width_is = width_four c.requires.opened.holds.good c.args.tail.now c.args.l _ c.update-e.ensures.stored c.requires.width_is _ (t.ensures c.update-e.new.run held) }
 
 pub overflow_cast-result : goal.overflow_cast-result
 overflow_cast-result c =

@@ -1,6 +1,5 @@
 -- `begin_128` meets its contract: the first two words are the key pair.
-use mathlib.Core.Logic.{inl}
-use mathlib.Core.Path.{◌≡◌, refl, ap, ◌∙◌}
+use mathlib.Core.Path.{◌≡◌, ap, ◌∙◌}
 use native.Mathlib.Omega.{arith}
 use lib.ListN.{length}
 use lib.Seq.{take_all}
@@ -11,12 +10,6 @@ use Rattle.mac_registers.specs.InnerOpen.{held_on}
 use Rattle.mac_registers.proofs.OnRun.{at_rest}
 use Rattle.mac_tagging.proofs.Starts.{begun-128}
 use Rattle.mac_tagging.proofs.updates.begin_128.Goals as goal
-
-pub key_at-key-requires : goal.key_at-key-requires
-key_at-key-requires c =
-    let two : length c.words_on-next.new.out ≡ 2 =
-    ap length c.words_on-next.ensures.words ∙ length-listed _ 0 2 in
-    record { width_fits = inl refl; words_fit = omega (arith, two) }
 
 pub returns : goal.returns
 returns c =

@@ -34,11 +34,6 @@ slice_bounds-words_on-end c =
     length-take-le _ zeros most in
     sym room
 
-pub words_on-next-requires : goal.words_on-next-requires
-words_on-next-requires c =
-    let rest = c.requires.at_rest in
-    record { high = c.requires.high; low = c.requires.low; laid = rest.laid; halves = rest.low }
-
 pub slice_bounds-fresh_at-end : goal.slice_bounds-fresh_at-end
 slice_bounds-fresh_at-end c =
     let most : c.args.width / 4 * 3 ≤ 12 =
@@ -52,19 +47,6 @@ slice_bounds-fresh_at-end c =
     omega (arith, length-append ys (drop n zeros), drawn, length-drop n zeros, most) in
     sym long
 
-pub fresh_at-tag-requires : goal.fresh_at-tag-requires
-fresh_at-tag-requires c =
-    let most : c.args.width / 4 * 3 ≤ 12 =
-    omega (arith, width-most c.requires.width_fits) in
-    let room : length (take (c.args.width / 4 * 3) zeros) ≡ c.args.width / 4 * 3 =
-    length-take-le _ zeros most in
-    let long : length (c.words_on-next.new.out ++ drop (c.args.width / 4 * 3) zeros) ≡ 12 =
-    let n : ℕ = c.args.width / 4 * 3 in
-    let ys = c.words_on-next.new.out in
-    let drawn : length ys ≡ n = ap length c.words_on-next.ensures.words ∙ length-listed _ 0 _ ∙ room in
-    omega (arith, length-append ys (drop n zeros), drawn, length-drop n zeros, most) in
-    record { width_fits = c.requires.width_fits; words_fit = omega (arith, long, most) }
-
 pub slice_bounds-key_at-end : goal.slice_bounds-key_at-end
 slice_bounds-key_at-end c =
     let most : c.args.width / 4 * 3 ≤ 12 =
@@ -77,19 +59,6 @@ slice_bounds-key_at-end c =
     let drawn : length ys ≡ n = ap length c.words_on-next.ensures.words ∙ length-listed _ 0 _ ∙ room in
     omega (arith, length-append ys (drop n zeros), drawn, length-drop n zeros, most) in
     sym long
-
-pub key_at-key-requires : goal.key_at-key-requires
-key_at-key-requires c =
-    let most : c.args.width / 4 * 3 ≤ 12 =
-    omega (arith, width-most c.requires.width_fits) in
-    let room : length (take (c.args.width / 4 * 3) zeros) ≡ c.args.width / 4 * 3 =
-    length-take-le _ zeros most in
-    let long : length (c.words_on-next.new.out ++ drop (c.args.width / 4 * 3) zeros) ≡ 12 =
-    let n : ℕ = c.args.width / 4 * 3 in
-    let ys = c.words_on-next.new.out in
-    let drawn : length ys ≡ n = ap length c.words_on-next.ensures.words ∙ length-listed _ 0 _ ∙ room in
-    omega (arith, length-append ys (drop n zeros), drawn, length-drop n zeros, most) in
-    record { width_fits = c.requires.width_fits; words_fit = omega (arith, long, most) }
 
 pub returns : goal.returns
 returns c =

@@ -13,10 +13,6 @@ use Rattle.mac_blocks.proofs.Moves.{emptied, emptied-held}
 use Rattle.mac_tagging.proofs.Bytes.{one-block-is}
 use Rattle.mac_tagging.proofs.updates.complete.Goals as goal
 
-pub behind-full-requires : goal.behind-full-requires
-behind-full-requires c =
-    let p = c.requires in omega (arith, p.fills, width-most p.opened.holds.good.a-width)
-
 pub slice_bounds-full-end : goal.slice_bounds-full-end
 slice_bounds-full-end c =
     let places : length c.behind-full.result ≡ 16 =
@@ -36,7 +32,7 @@ slice_bounds-whole-end c =
 pub whole-r-requires : goal.whole-r-requires
 whole-r-requires c =
     let opened = c.requires.opened in
-    (c.requires.high, (c.requires.low, (record { rest = opened.rest; holds = emptied-held (stored_at c.args.run.now c.args.o) opened.holds }, (refl, omega arith))))
+    (record { rest = opened.rest; holds = emptied-held (stored_at c.args.run.now c.args.o) opened.holds }, (refl, omega arith))
 
 pub returns : goal.returns
 returns c =

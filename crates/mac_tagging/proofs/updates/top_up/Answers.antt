@@ -33,7 +33,7 @@ complete-next-requires c =
     cnt-lt (stored_at c.args.run.now c.args.o) c.requires.opened.holds in
     let lacking : length (take (c.args.o.width - c.args.o.cnt) c.args.message.now) ≡ c.args.o.width - c.args.o.cnt =
     length-take-le _ _ (omega (arith, c.requires.fills)) in
-    record { high = c.requires.high; low = c.requires.low; opened = c.requires.opened; fills = omega (arith, short, lacking) }
+    record { opened = c.requires.opened; fills = omega (arith, short, lacking) }
 
 pub returns : goal.returns
 returns c =

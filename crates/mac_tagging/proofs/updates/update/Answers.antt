@@ -20,28 +20,22 @@ use Rattle.mac_tagging.proofs.updates.update.Goals as goal
 pub overflow_sub-o : goal.overflow_sub-o
 overflow_sub-o c =
     let short : c.args.o.cnt < c.args.o.width =
-    cnt-lt (stored_at c.args.run.now c.args.o) c.requires.opened.holds in
+    cnt-lt (stored_at c.args.run.now c.args.o) c.requires.holds in
     omega (arith, short)
 
 pub returns-then-message-o : goal.returns-then-message-o
 returns-then-message-o c =
     let run = c.args.run.now in
-    let opened = c.requires.opened in
+    let opened = c.requires in
     record {
       rest = subst (λ (h : Halves). AtRest run c.args.pairs.now h) (sym c.wait.ensures.same) opened.rest;
       stored = c.wait.ensures.stored run opened.holds;
     }
 
-pub top_up-topped-requires : goal.top_up-topped-requires
-top_up-topped-requires c =
-    let short : c.args.o.cnt < c.args.o.width =
-    cnt-lt (stored_at c.args.run.now c.args.o) c.requires.opened.holds in
-    record { high = c.requires.high; low = c.requires.low; opened = c.requires.opened; fills = omega (arith, c.if-message-o.false, short) }
-
 pub whole-fed-requires : goal.whole-fed-requires
 whole-fed-requires c =
     let topped = c.top_up-topped.ensures in
-    (c.requires.high, (c.requires.low, (opened-as topped.stands (good-updated _ c.requires.opened.holds.good), (topped.none, topped.within))))
+    (opened-as topped.stands (good-updated _ c.requires.holds.good), (topped.none, topped.within))
 
 pub wait-requires-2 : goal.wait-requires-2
 unfolding packed
@@ -50,7 +44,7 @@ wait-requires-2 c =
     ≡ packed c.args.o.width (updated (c.args.o.width * 8) (tagging_of (stored_at c.args.run.now c.args.o)) (take c.whole-fed.result.at c.args.message.now)) =
     let topped = c.top_up-topped in
     let b = c.whole-fed.ensures.1 in
-    part-on c.requires.opened.holds.good c.args.message.now topped.result.at c.whole-fed.result.at (omega (arith, b.at-is)) topped.ensures.stands.stored b.held in
+    part-on c.requires.holds.good c.args.message.now topped.result.at c.whole-fed.result.at (omega (arith, b.at-is)) topped.ensures.stands.stored b.held in
     let same_width : c.whole-fed.result.o.width ≡ c.args.o.width =
     ap (λ (x : Stored). x.width) so_far in
     let first_width : c.top_up-topped.result.o.width ≡ c.args.o.width =
@@ -60,7 +54,7 @@ wait-requires-2 c =
     let b = c.whole-fed.ensures.1 in
     let left : length (take (length m - at) (drop at m)) ≡ length m - at = length-take-le (length m - at) (drop at m) (omega (arith, length-drop at m)) in (
       omega (arith, b.none, left, b.all, b.within, same_width, first_width),
-      subst Width (sym same_width) c.requires.opened.holds.good.a-width,
+      subst Width (sym same_width) c.requires.holds.good.a-width,
     )
 
 pub returns : goal.returns
@@ -69,13 +63,13 @@ returns c =
     ≡ packed c.args.o.width (updated (c.args.o.width * 8) (tagging_of (stored_at c.args.run.now c.args.o)) (take c.whole-fed.result.at c.args.message.now)) =
     let topped = c.top_up-topped in
     let b = c.whole-fed.ensures.1 in
-    part-on c.requires.opened.holds.good c.args.message.now topped.result.at c.whole-fed.result.at (omega (arith, b.at-is)) topped.ensures.stands.stored b.held in
+    part-on c.requires.holds.good c.args.message.now topped.result.at c.whole-fed.result.at (omega (arith, b.at-is)) topped.ensures.stands.stored b.held in
     let a = c.args in
     let w = a.o.width in
     let m : List ℕ = a.message.now in
     let run = c.whole-fed.new.run in
     let fed = c.whole-fed.ensures in
-    let good = c.requires.opened.holds.good in
+    let good = c.requires.holds.good in
     let waits = c.wait-2.ensures in
     record {
       rest = subst (λ (h : Halves). AtRest run c.whole-fed.new.pairs h) (sym waits.same) fed.0;

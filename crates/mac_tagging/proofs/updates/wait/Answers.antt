@@ -2,16 +2,10 @@
 use mathlib.Core.List.{List}
 use mathlib.Core.Path.{refl, ap, ◌∙◌}
 use Prim.Native.Nat.{ℕ, ◌+◌}
-use native.Mathlib.Omega.{arith}
 use lib.ListN.{length}
 use Rattle.mac_registers.specs.InnerOpen.{held_on, stored_at}
-use Rattle.mac_registers.proofs.Packed.{width-most}
 use Rattle.mac_tagging.proofs.Bytes.{waits-are}
 use Rattle.mac_tagging.proofs.updates.wait.Goals as goal
-
-pub behind-rem-requires : goal.behind-rem-requires
-behind-rem-requires c =
-    let p = c.requires in omega (arith, p.0, width-most p.1)
 
 pub returns : goal.returns
 returns c =
