@@ -13,8 +13,7 @@ fn put_once(answer: Result<usize, Refusal>, drawn: &mut usize) -> u32
 }
 
 // As the crate does, or BAD_KEY, BAD_BITS, SPENT.
-#[unsafe(no_mangle)]
-pub extern "C" fn eea3_mask_crate(
+pub fn eea3_mask_crate(
     count: u32,
     bearer: u8,
     direction: u8,
@@ -30,8 +29,7 @@ pub extern "C" fn eea3_mask_crate(
 }
 
 // With every bit past the length zeroed, or BAD_KEY, BAD_BITS, SPENT.
-#[unsafe(no_mangle)]
-pub extern "C" fn eea3_mask_clean(
+pub fn eea3_mask_clean(
     count: u32,
     bearer: u8,
     direction: u8,
@@ -47,8 +45,7 @@ pub extern "C" fn eea3_mask_clean(
 }
 
 // Crate mode of a bearer and a direction as given, or BAD_KEY, BAD_FIELD, BAD_BITS, SPENT.
-#[unsafe(no_mangle)]
-pub extern "C" fn eea3_mask_crate_strict(
+pub fn eea3_mask_crate_strict(
     count: u32,
     bearer: u8,
     direction: u8,
@@ -64,8 +61,7 @@ pub extern "C" fn eea3_mask_crate_strict(
 }
 
 // Clean mode of the same, or BAD_KEY, BAD_FIELD, BAD_BITS, SPENT.
-#[unsafe(no_mangle)]
-pub extern "C" fn eea3_mask_clean_strict(
+pub fn eea3_mask_clean_strict(
     count: u32,
     bearer: u8,
     direction: u8,

@@ -7,8 +7,7 @@ use frame::FrameFields;
 use refusals::{Refusal, number_of};
 
 // A frame written where its plain body lies, or BAD_KEY, BAD_FRAME, BAD_LENGTH, BAD_FIELD, BAD_BODY.
-#[unsafe(no_mangle)]
-pub extern "C" fn zuc_frame_write(
+pub fn zuc_frame_write(
     ck: &[u8],
     ik: &[u8],
     count: u32,
@@ -40,13 +39,7 @@ fn put_fields(opened: Result<FrameFields, Refusal>, fields: &mut [u32; 4]) -> u3
 }
 
 // A frame's plain body left where it lies, and COUNT, bearer, direction and L; or BAD_KEY, BAD_FRAME, BAD_LENGTH, BAD_FIELD, BAD_BODY, BAD_TAG.
-#[unsafe(no_mangle)]
-pub extern "C" fn zuc_frame_read(
-    ck: &[u8],
-    ik: &[u8],
-    frame: &mut [u8],
-    fields: &mut [u32; 4],
-) -> u32
+pub fn zuc_frame_read(ck: &[u8], ik: &[u8], frame: &mut [u8], fields: &mut [u32; 4]) -> u32
     ensures { record { number = result; fields = fields.new; frame = frame.new } ≡ read_array (read_outcome ck.now ik.now frame.old) }
 {
     let opened = frame::read(ck, ik, frame);

@@ -31,38 +31,28 @@ fn put_start(state: &mut [u32; 20], start: Result<Generator, Refusal>) -> u32
 }
 
 // A ZUC-128 generator, or BAD_KEY, BAD_IV.
-#[unsafe(no_mangle)]
-pub extern "C" fn zuc128_start(state: &mut [u32; 20], key: &[u8], iv: &[u8]) -> u32
+pub fn zuc128_start(state: &mut [u32; 20], key: &[u8], iv: &[u8]) -> u32
     ensures { record { number = result; array = state.new } ≡ start_array (start₁₂₈ key.now iv.now) }
 {
     put_start(state, keystream::zuc128::new(key, iv))
 }
 
 // A ZUC-256 generator, or BAD_KEY, BAD_IV.
-#[unsafe(no_mangle)]
-pub extern "C" fn zuc256_start(state: &mut [u32; 20], key: &[u8], iv: &[u8]) -> u32
+pub fn zuc256_start(state: &mut [u32; 20], key: &[u8], iv: &[u8]) -> u32
     ensures { record { number = result; array = state.new } ≡ start_array (start₂₅₆ d-keystream key.now iv.now) }
 {
     put_start(state, keystream::zuc256::new(key, iv))
 }
 
 // A generator of the EEA3 keystream, or BAD_KEY.
-#[unsafe(no_mangle)]
-pub extern "C" fn eea3_start(
-    state: &mut [u32; 20],
-    count: u32,
-    bearer: u8,
-    direction: u8,
-    key: &[u8],
-) -> u32
+pub fn eea3_start(state: &mut [u32; 20], count: u32, bearer: u8, direction: u8, key: &[u8]) -> u32
     ensures { record { number = result; array = state.new } ≡ start_array (start-EEA3 count bearer direction key.now) }
 {
     put_start(state, keystream::eea3::new(count, bearer, direction, key))
 }
 
 // The same of a bearer and a direction as given, or BAD_KEY, BAD_FIELD.
-#[unsafe(no_mangle)]
-pub extern "C" fn eea3_start_strict(
+pub fn eea3_start_strict(
     state: &mut [u32; 20],
     count: u32,
     bearer: u8,
@@ -78,8 +68,7 @@ pub extern "C" fn eea3_start_strict(
 }
 
 // The next word, or BAD_STATE, SPENT. The draw is made in the array itself.
-#[unsafe(no_mangle)]
-pub extern "C" fn zuc_draw(state: &mut [u32; 20], word: &mut u32) -> u32
+pub fn zuc_draw(state: &mut [u32; 20], word: &mut u32) -> u32
     ensures { record { number = result; word = word.new; array = state.new } ≡ draw_array (draw_outcome (held_in state.old)) }
 {
     *word = 0;
@@ -94,8 +83,7 @@ pub extern "C" fn zuc_draw(state: &mut [u32; 20], word: &mut u32) -> u32
 }
 
 // The next words, as many as are lent, or BAD_STATE, SPENT.
-#[unsafe(no_mangle)]
-pub extern "C" fn zuc_words(state: &mut [u32; 20], out: &mut [u32]) -> u32
+pub fn zuc_words(state: &mut [u32; 20], out: &mut [u32]) -> u32
     ensures { record { number = result; array = state.new; buffer = out.new } ≡ words_array (fill_outcome (held_in state.old) out.old) }
 {
     let mut g = state_in(*state);
@@ -120,13 +108,7 @@ fn put_mask(
 }
 
 // A mask as the crate does it, or BAD_STATE, BAD_BITS, SPENT.
-#[unsafe(no_mangle)]
-pub extern "C" fn zuc_mask_crate(
-    state: &mut [u32; 20],
-    buf: &mut [u8],
-    bits: usize,
-    count: &mut usize,
-) -> u32
+pub fn zuc_mask_crate(state: &mut [u32; 20], buf: &mut [u8], bits: usize, count: &mut usize) -> u32
     ensures { record { number = result; count = count.new; array = state.new; buffer = buf.new } ≡ mask_array (crate_outcome (held_in state.old) bits buf.old) }
 {
     let mut g = state_in(*state);
@@ -135,13 +117,7 @@ pub extern "C" fn zuc_mask_crate(
 }
 
 // A mask with every bit past the length zeroed, or BAD_STATE, BAD_BITS, SPENT.
-#[unsafe(no_mangle)]
-pub extern "C" fn zuc_mask_clean(
-    state: &mut [u32; 20],
-    buf: &mut [u8],
-    bits: usize,
-    count: &mut usize,
-) -> u32
+pub fn zuc_mask_clean(state: &mut [u32; 20], buf: &mut [u8], bits: usize, count: &mut usize) -> u32
     ensures { record { number = result; count = count.new; array = state.new; buffer = buf.new } ≡ mask_array (clean_outcome (held_in state.old) bits buf.old) }
 {
     let mut g = state_in(*state);

@@ -28,8 +28,7 @@ fn put_start(state: &mut [u64; 21], start: Result<(TagState, usize), Refusal>) -
 }
 
 // A ZUC-128 tag state, or BAD_KEY, BAD_IV.
-#[unsafe(no_mangle)]
-pub extern "C" fn zuc128_tag_start(state: &mut [u64; 21], key: &[u8], iv: &[u8]) -> u32
+pub fn zuc128_tag_start(state: &mut [u64; 21], key: &[u8], iv: &[u8]) -> u32
     ensures { record { number = result; array = state.new } ≡ tag_array (start_outcome-128 key.now iv.now) }
 {
     let start = mac::zuc128::new(key, iv);
@@ -37,8 +36,7 @@ pub extern "C" fn zuc128_tag_start(state: &mut [u64; 21], key: &[u8], iv: &[u8])
 }
 
 // An EIA3 tag state, or BAD_KEY.
-#[unsafe(no_mangle)]
-pub extern "C" fn eia3_tag_start(
+pub fn eia3_tag_start(
     state: &mut [u64; 21],
     count: u32,
     bearer: u8,
@@ -52,8 +50,7 @@ pub extern "C" fn eia3_tag_start(
 }
 
 // The same of a bearer and a direction as given, or BAD_KEY, BAD_FIELD.
-#[unsafe(no_mangle)]
-pub extern "C" fn eia3_tag_start_strict(
+pub fn eia3_tag_start_strict(
     state: &mut [u64; 21],
     count: u32,
     bearer: u8,
@@ -67,13 +64,7 @@ pub extern "C" fn eia3_tag_start_strict(
 }
 
 // A ZUC-256 tag state of a width in bytes, or BAD_WIDTH, BAD_KEY, BAD_IV.
-#[unsafe(no_mangle)]
-pub extern "C" fn zuc256_tag_start(
-    state: &mut [u64; 21],
-    width: usize,
-    key: &[u8],
-    iv: &[u8],
-) -> u32
+pub fn zuc256_tag_start(state: &mut [u64; 21], width: usize, key: &[u8], iv: &[u8]) -> u32
     ensures { record { number = result; array = state.new } ≡ tag_array (start_outcome-256 width key.now iv.now) }
 {
     let start = mac::zuc256::new(width, key, iv);
@@ -89,8 +80,7 @@ fn put_update(state: &mut [u64; 21], answer: Result<(), Refusal>, s: TagState, w
 }
 
 // More bytes of a message, of ZUC-128 or EIA3, or BAD_STATE, SPENT.
-#[unsafe(no_mangle)]
-pub extern "C" fn zuc128_tag_update(state: &mut [u64; 21], msg: &[u8]) -> u32
+pub fn zuc128_tag_update(state: &mut [u64; 21], msg: &[u8]) -> u32
     ensures { record { number = result; array = state.new } ≡ tag_array (update_outcome (tag_formed formed-128 (stored_in state.old)) (stored_in state.old) msg.now) }
 {
     let mut mac = Mac128 {
@@ -102,8 +92,7 @@ pub extern "C" fn zuc128_tag_update(state: &mut [u64; 21], msg: &[u8]) -> u32
 }
 
 // More bytes of a message, of ZUC-256, or BAD_STATE, SPENT.
-#[unsafe(no_mangle)]
-pub extern "C" fn zuc256_tag_update(state: &mut [u64; 21], msg: &[u8]) -> u32
+pub fn zuc256_tag_update(state: &mut [u64; 21], msg: &[u8]) -> u32
     ensures { record { number = result; array = state.new } ≡ tag_array (update_outcome (tag_formed formed (stored_in state.old)) (stored_in state.old) msg.now) }
 {
     let mut mac = Mac256 {
@@ -123,13 +112,7 @@ fn put_tag_32(answer: Result<u32, Refusal>, tag: &mut [u64; 2]) -> u32
 }
 
 // The tag of ZUC-128 or EIA3, and a state of zeros, or BAD_STATE, BAD_BITS, SPENT.
-#[unsafe(no_mangle)]
-pub extern "C" fn zuc128_tag_finish(
-    state: &mut [u64; 21],
-    tail: &[u8],
-    bits: usize,
-    tag: &mut [u64; 2],
-) -> u32
+pub fn zuc128_tag_finish(state: &mut [u64; 21], tail: &[u8], bits: usize, tag: &mut [u64; 2]) -> u32
     ensures { record { number = result; tag = tag.new; array = state.new } ≡ closing_array (two_closing (finish_outcome-128 (stored_in state.old) tail.now bits)) }
 {
     let mut mac = Mac128 {
@@ -142,13 +125,7 @@ pub extern "C" fn zuc128_tag_finish(
 }
 
 // The tag of ZUC-256, and a state of zeros, or BAD_STATE, BAD_BITS, SPENT.
-#[unsafe(no_mangle)]
-pub extern "C" fn zuc256_tag_finish(
-    state: &mut [u64; 21],
-    tail: &[u8],
-    bits: usize,
-    tag: &mut [u64; 2],
-) -> u32
+pub fn zuc256_tag_finish(state: &mut [u64; 21], tail: &[u8], bits: usize, tag: &mut [u64; 2]) -> u32
     ensures { record { number = result; tag = tag.new; array = state.new } ≡ closing_array (finish_outcome-256 (stored_in state.old) tail.now bits) }
 {
     let mut mac = Mac256 {
@@ -162,22 +139,14 @@ pub extern "C" fn zuc256_tag_finish(
 }
 
 // A ZUC-128 tag at once, or BAD_KEY, BAD_IV, BAD_BITS, SPENT.
-#[unsafe(no_mangle)]
-pub extern "C" fn zuc128_tag(
-    key: &[u8],
-    iv: &[u8],
-    msg: &[u8],
-    bits: usize,
-    tag: &mut [u64; 2],
-) -> u32
+pub fn zuc128_tag(key: &[u8], iv: &[u8], msg: &[u8], bits: usize, tag: &mut [u64; 2]) -> u32
     ensures { record { number = result; tag = tag.new } ≡ two_once (once_outcome-128 key.now iv.now msg.now bits) }
 {
     put_tag_32(mac::zuc128::compute(key, iv, msg, bits), tag)
 }
 
 // An EIA3 tag at once, or BAD_KEY, BAD_BITS, SPENT.
-#[unsafe(no_mangle)]
-pub extern "C" fn eia3_tag(
+pub fn eia3_tag(
     count: u32,
     bearer: u8,
     direction: u8,
@@ -195,8 +164,7 @@ pub extern "C" fn eia3_tag(
 }
 
 // The same of a bearer and a direction as given, or BAD_KEY, BAD_FIELD, BAD_BITS, SPENT.
-#[unsafe(no_mangle)]
-pub extern "C" fn eia3_tag_strict(
+pub fn eia3_tag_strict(
     count: u32,
     bearer: u8,
     direction: u8,
@@ -214,8 +182,7 @@ pub extern "C" fn eia3_tag_strict(
 }
 
 // A ZUC-256 tag at once, or BAD_WIDTH, BAD_KEY, BAD_IV, BAD_BITS, SPENT.
-#[unsafe(no_mangle)]
-pub extern "C" fn zuc256_tag(
+pub fn zuc256_tag(
     width: usize,
     key: &[u8],
     iv: &[u8],
