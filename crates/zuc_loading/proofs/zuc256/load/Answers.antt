@@ -26,7 +26,7 @@ copied d k rest v key iv e f l m =
 
 pub slice_bounds-x-end-2 : goal.slice_bounds-x-end-2
 slice_bounds-x-end-2 c =
-    ends c.copy.new.to _ (ap length c.copy.ensures ∙ c.requires.key_fits) refl
+    ends c.copy_from_slice.new.self _ (ap length c.copy_from_slice.ensures.after ∙ c.requires.key_fits) refl
 
 pub returns : goal.returns
 returns c =
@@ -34,4 +34,4 @@ returns c =
     let copied-key = copied-iv in
     let start = copied-key in
     c.load_from.ensures
-    ∙ copied start.args.d copied-key.copy.new.to _ copied-iv.copy-2.new.to _ _ copied-key.copy.ensures copied-iv.copy-2.ensures start.requires.key_fits refl
+    ∙ copied start.args.d copied-key.copy_from_slice.new.self _ copied-iv.copy_from_slice-2.new.self _ _ copied-key.copy_from_slice.ensures.after copied-iv.copy_from_slice-2.ensures.after start.requires.key_fits refl
