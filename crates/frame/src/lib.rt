@@ -195,8 +195,8 @@ fn seal(ck: &[u8], ik: &[u8], f: FrameFields, frame: &mut [u8])
     let end = n - 4;
     mask_body(ck, f, &mut frame[13..end]);
     let tag = tag_over(ik, f, &frame[13..end]);
-    frame[end..].copy_from_slice(&tag.to_be_bytes());
-    frame[..13].copy_from_slice(&head(f, (n - 17) as u32));
+    frame[end..n].copy_from_slice(&tag.to_be_bytes());
+    frame[0..13].copy_from_slice(&head(f, (n - 17) as u32));
 }
 
 // Finds the plain body at byte 13, masks it there and fills in every other byte; or BadKey, BadFrame, BadLength, BadField, BadBody, in this order.
