@@ -121,7 +121,7 @@ pub fn tag_with(width: usize, key: [u64; 4], tag: [u64; 2], block: &[u8]) -> [u6
         8 => [tag[0] ^ sum_64(key[0], key[1], block), 0],
         _ => {
             let sum = sum_128(key[0], key[1], key[2], key[3], block);
-            [tag[0] ^ sum.x0, tag[1] ^ sum.x1]
+            [tag[0] ^ sum[0], tag[1] ^ sum[1]]
         }
     }
 }

@@ -3,10 +3,12 @@ use mathlib.Core.Path.{◌≡◌, refl, ap, ap₂, sym, ◌∙◌}
 use mathlib.Core.List.{List, [], ◌∷◌, ◌++◌}
 use Prim.Native.Nat.{ℕ, ◌+◌, ◌-◌, ◌*◌, ◌<◌}
 use lib.Bits.{bit_xor}
+use lib.ListN.{length}
 use native.Mathlib.Omega.{arith}
-use Rattle.standard.specs.Notation.{◌⊕◌, ◌⟨◌⟩}
+use Rattle.standard.specs.Notation.{◌⊕◌, ◌⟨◌⟩, listed}
 use Rattle.standard.specs.Bits.{M, bit_at, window}
 use Rattle.standard.proofs.Linear.{M-lt}
+use Rattle.standard.proofs.Listed.{is-listed}
 use Rattle.standard.proofs.Register.{sum-window}
 use Rattle.standard.proofs.Window.{bit_at_lt}
 use Rattle.mac_wide.specs.InnerRows.{four_on, multiples_of, over, stream_of}
@@ -53,23 +55,26 @@ loop-i-preserved c =
     let bits : (i : ℕ) → m i < 2 = M-lt a.block.now in (
       omega (arith, test.loop-i-test.true),
       more a.k0 a.k1 a.k2 a.k3 m bits l.i _ _ _ _ _ _ _ _ t₀.multiples-a.ensures t₁.multiples-b.ensures t₂.multiples-c.ensures t₃.multiples-d.ensures
-          first-n.first_four-n.ensures first-p.first_four-m.ensures l.invariant.1 c.turn_128-high.ensures,
+          first-n.first_four-n.ensures first-p.first_four-m.ensures l.invariant.1 c.turn-high.ensures,
       more a.k0 a.k1 a.k2 a.k3 (four_on m) (λ i. bits (4 + i)) l.i _ _ _ _ _ _ _ _ t₀.multiples-a.ensures t₁.multiples-b.ensures t₂.multiples-c.ensures
-          t₃.multiples-d.ensures last-n.last_four-n.ensures last-p.last_four-m.ensures l.invariant.2 turn_low.turn_128-low.ensures,
+          t₃.multiples-d.ensures last-n.last_four-n.ensures last-p.last_four-m.ensures l.invariant.2 turn_low.turn-low.ensures,
     )
 
 pub returns : goal.returns
+unfolding listed
 returns c =
     let second = c in
     let first = second in
     let loop = first in
     let l = loop.loop-i in
     let a = loop.args in
+    let listed-high = sym (is-listed (λ k. l.high ⟨ k ⟩) l.high 3 (ap length l.invariant.1) (λ k h. refl)) in
+    let listed-low = sym (is-listed (λ k. l.low ⟨ k ⟩) l.low 3 (ap length l.invariant.2) (λ k h. refl)) in
     let m : ℕ → ℕ = M a.block.now in
     let key : List ℕ = a.k0 ∷ a.k1 ∷ a.k2 ∷ a.k3 ∷ [] in
     let s : ℕ → ℕ = stream_of key in
     let bits : (i : ℕ) → s i < 2 = bit_at_lt 64 (λ j. key ⟨ j ⟩) in
-    let both = gathered-is s bits m 2 2 l.i _ _ (omega (arith, l.invariant.0)) l.invariant.1 l.invariant.2 in (
-      ap (bit_xor l.high.x0) first.up.ensures ∙ ap (λ (x : List ℕ). x ⟨ 0 ⟩) both ∙ sym (sum-window s bits m 128 0 64),
-      ap (bit_xor l.high.x1) second.up-2.ensures ∙ ap (λ (x : List ℕ). x ⟨ 1 ⟩) both ∙ sym (sum-window s bits m 128 64 64),
+    let both = gathered-is s bits m 2 2 l.i _ _ (omega (arith, l.invariant.0)) (listed-high ∙ l.invariant.1) (listed-low ∙ l.invariant.2) in (
+      ap (bit_xor (l.high ⟨ 0 ⟩)) first.up.ensures ∙ ap (λ (x : List ℕ). x ⟨ 0 ⟩) both ∙ sym (sum-window s bits m 128 0 64),
+      ap (bit_xor (l.high ⟨ 1 ⟩)) second.up-2.ensures ∙ ap (λ (x : List ℕ). x ⟨ 1 ⟩) both ∙ sym (sum-window s bits m 128 64 64),
     )

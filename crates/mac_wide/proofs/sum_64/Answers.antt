@@ -3,10 +3,12 @@ use mathlib.Core.Path.{◌≡◌, refl, ap, ap₂, sym, ◌∙◌}
 use mathlib.Core.List.{List, [], ◌∷◌, ◌++◌}
 use Prim.Native.Nat.{ℕ, ◌+◌, ◌-◌, ◌*◌, ◌<◌}
 use lib.Bits.{bit_xor}
+use lib.ListN.{length}
 use native.Mathlib.Omega.{arith}
-use Rattle.standard.specs.Notation.{◌⊕◌, ◌⟨◌⟩}
+use Rattle.standard.specs.Notation.{◌⊕◌, ◌⟨◌⟩, listed}
 use Rattle.standard.specs.Bits.{M, bit_at, window}
 use Rattle.standard.proofs.Linear.{M-lt}
+use Rattle.standard.proofs.Listed.{is-listed}
 use Rattle.standard.proofs.Register.{sum-window}
 use Rattle.standard.proofs.Window.{bit_at_lt}
 use Rattle.mac_wide.specs.InnerRows.{four_on, multiples_of, over, stream_of}
@@ -45,19 +47,22 @@ loop-i-preserved c =
     let m : ℕ → ℕ = M a.block.now in
     let bits : (i : ℕ) → m i < 2 = M-lt a.block.now in (
       omega (arith, test.loop-i-test.true),
-      more a.k0 a.k1 m bits l.i _ _ _ _ _ tables.multiples-a.ensures tables.multiples-b.ensures first.first_four.ensures l.invariant.1 c.turn_64-high.ensures,
-      more a.k0 a.k1 (four_on m) (λ i. bits (4 + i)) l.i _ _ _ _ _ tables.multiples-a.ensures tables.multiples-b.ensures last.last_four.ensures
-          l.invariant.2 turn_low.turn_64-low.ensures,
+      more a.k0 a.k1 m bits l.i _ _ _ _ _ tables.multiples-a.ensures tables.multiples-b.ensures first.first_four-n.ensures l.invariant.1 c.turn-high.ensures,
+      more a.k0 a.k1 (four_on m) (λ i. bits (4 + i)) l.i _ _ _ _ _ tables.multiples-a.ensures tables.multiples-b.ensures last.last_four-n.ensures
+          l.invariant.2 turn_low.turn-low.ensures,
     )
 
 pub returns : goal.returns
+unfolding listed
 returns c =
     let loop = c in
     let l = loop.loop-i in
     let a = loop.args in
+    let listed-high = sym (is-listed (λ k. l.high ⟨ k ⟩) l.high 2 (ap length l.invariant.1) (λ k h. refl)) in
+    let listed-low = sym (is-listed (λ k. l.low ⟨ k ⟩) l.low 2 (ap length l.invariant.2) (λ k h. refl)) in
     let m : ℕ → ℕ = M a.block.now in
     let s : ℕ → ℕ = stream_of (a.k0 ∷ a.k1 ∷ []) in
     let bits : (i : ℕ) → s i < 2 = bit_at_lt 64 (λ j. (a.k0 ∷ a.k1 ∷ []) ⟨ j ⟩) in
-    ap (bit_xor l.high.x0) c.up.ensures
-    ∙ ap (λ (x : List ℕ). x ⟨ 0 ⟩) (gathered-is s bits m 1 1 l.i _ _ (omega (arith, l.invariant.0)) l.invariant.1 l.invariant.2)
+    ap (bit_xor (l.high ⟨ 0 ⟩)) c.up.ensures
+    ∙ ap (λ (x : List ℕ). x ⟨ 0 ⟩) (gathered-is s bits m 1 1 l.i _ _ (omega (arith, l.invariant.0)) (listed-high ∙ l.invariant.1) (listed-low ∙ l.invariant.2))
     ∙ sym (sum-window s bits m 64 0 64)
