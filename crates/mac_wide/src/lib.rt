@@ -84,12 +84,12 @@ fn turn<const N: usize>(entry: [u64; N], x: [u64; N]) -> [u64; N]
 // The last byte first. What is lost below never reaches the bits that are read: those of the low row lie four further down.
 // This and sum_128 stay two: no const argument is computed, so one generic sum would take the words W, W + 1 of a register and 2 * W of the
 // tables as three parameters tied by clauses, and a loop over the words of an entry.
-pub fn sum_64(k0: u64, k1: u64, block: &[u8]) -> u64
+pub fn sum_64(key: [u64; 2], block: &[u8]) -> u64
     requires { 8 ≤ length block.now }
-    ensures { result ≡ T 64 (stream_of (k0 ∷ k1 ∷ [])) 0 (M block.now) 64 }
+    ensures { result ≡ T 64 (stream_of key) 0 (M block.now) 64 }
 {
-    let a = multiples(k0, k1);
-    let b = multiples(k1, 0);
+    let a = multiples(key[0], key[1]);
+    let b = multiples(key[1], 0);
     let mut high = [0u64; 2];
     let mut low = [0u64; 2];
     for i in 0usize..8 {
@@ -102,14 +102,14 @@ pub fn sum_64(k0: u64, k1: u64, block: &[u8]) -> u64
 }
 
 // The second message word stands 64 bits further on in the key, so its entry has the next tables.
-pub fn sum_128(k0: u64, k1: u64, k2: u64, k3: u64, block: &[u8]) -> [u64; 2]
+pub fn sum_128(key: [u64; 4], block: &[u8]) -> [u64; 2]
     requires { 16 ≤ length block.now }
-    ensures { (result ⟨ 0 ⟩ ≡ T 64 (stream_of (k0 ∷ k1 ∷ k2 ∷ k3 ∷ [])) 0 (M block.now) 128) × (result ⟨ 1 ⟩ ≡ T 64 (stream_of (k0 ∷ k1 ∷ k2 ∷ k3 ∷ [])) 64 (M block.now) 128) }
+    ensures { (result ⟨ 0 ⟩ ≡ T 64 (stream_of key) 0 (M block.now) 128) × (result ⟨ 1 ⟩ ≡ T 64 (stream_of key) 64 (M block.now) 128) }
 {
-    let a = multiples(k0, k1);
-    let b = multiples(k1, k2);
-    let c = multiples(k2, k3);
-    let d = multiples(k3, 0);
+    let a = multiples(key[0], key[1]);
+    let b = multiples(key[1], key[2]);
+    let c = multiples(key[2], key[3]);
+    let d = multiples(key[3], 0);
     let mut high = [0u64; 3];
     let mut low = [0u64; 3];
     for i in 0usize..8 {
