@@ -70,7 +70,7 @@ fn words_of(z: Zuc) -> [u64; 9]
     array::from_fn(|i| joined(a[2 * i], a[2 * i + 1]))
 }
 
-// One half of a word, the high one first.
+// One half of a word, the high one first. It and byte_of stay two: one function over u32 and u8 would need a trait for two casts.
 fn half_of(word: u64, k: usize) -> u32
     requires { k < 2 }
     ensures { result ≡ window (bit_of 64 word) (k * 32) 32 }

@@ -82,8 +82,8 @@ fn turn<const N: usize>(entry: [u64; N], x: [u64; N]) -> [u64; N]
 }
 
 // The last byte first. What is lost below never reaches the bits that are read: those of the low row lie four further down.
-// This and sum_128 stay two: no const argument is computed, so one generic sum would take the words W, W + 1 of a register and 2 * W of the
-// tables as three parameters tied by clauses, and a loop over the words of an entry.
+// This and sum_128 stay two: no const argument is computed, so one generic sum would take W words, W + 1 of a register and 2 * W tables as three
+// parameters tied by clauses, and loop over the words of an entry. Index i counts bytes from the end of both message words at once.
 pub fn sum_64(key: [u64; 2], block: &[u8]) -> u64
     requires { 8 ≤ length block.now }
     ensures { result ≡ T 64 (stream_of key) 0 (M block.now) 64 }
