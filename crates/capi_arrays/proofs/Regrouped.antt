@@ -1,14 +1,13 @@
 -- Laws of numbers whose bits are grouped anew: entry by entry, and back again; by the bits of windows.
-use borrow.Author.Count.{below_none}
 use lib.Arith.{digits_div, digits_lt, digits_mod}
-use lib.ListN.{length, length-set, set}
+use lib.ListN.{length}
 use mathlib.Core.List.{List}
 use mathlib.Core.Path.{◌≡◌, sym, ap, ap₂, ◌∙◌, subst}
 use native.Mathlib.Nat.{add_assoc, add-mul, div-add-mod', div-lt_iff_lt-mul, mod-lt, mul_assoc, mul_comm, one-mul, zero-add}
 use native.Mathlib.Omega.{arith}
 use Prim.Native.Nat.{ℕ, ◌+◌, ◌-◌, ◌*◌, ◌/◌, ◌%◌, ◌^◌, ◌<◌, ◌≤◌}
 use Rattle.capi_arrays.specs.Arrays.{regrouped}
-use Rattle.standard.proofs.Listed.{get_or-listed, is-listed, length-listed, stored}
+use Rattle.standard.proofs.Listed.{get_or-listed, is-listed, length-listed}
 use Rattle.standard.proofs.Window.{bit-window, bit_at_lt, window-bit_of, window-cell, window-ext, window-split}
 use Rattle.standard.specs.Bits.{bit_at, bit_of, window}
 use Rattle.standard.specs.Notation.{◌⟨◌⟩, listed}
@@ -79,28 +78,3 @@ regrouped-back m n c d mpos npos same run full fits = sym (is-listed (λ j. wind
         window-ext G (bit_at m f) (k * m) (k * m) m
         (λ j l. bits-same m n c npos f (k * m + j) (subst (λ (x : ℕ). k * m + j < x) (sym same) (digits_lt h l)))
         ∙ window-cell m mpos f k (fits k h)
-
--- the numbers of n bits in numbers of m * n
-abbrev pub cuts : ℕ → ℕ → List ℕ → ℕ → ℕ
-cuts m n run j = window (bit_at (m * n) (λ i. run ⟨ i ⟩)) (j * n) n
-
--- a loop that fills a list of n entries by f has filled the first i of them
-abbrev pub Filled : (ℕ → ℕ) → ℕ → ℕ → List ℕ → Type 0
-Filled f n i xs = (i ≤ n) × (length xs ≡ n) × ((k : ℕ) → k < i → xs ⟨ k ⟩ ≡ f k)
-
-pub none_filled : (f : ℕ → ℕ) (n : ℕ) (xs : List ℕ) → length xs ≡ n → Filled f n 0 xs
-none_filled f n xs e = (omega arith, e, below_none (λ k. xs ⟨ k ⟩ ≡ f k))
-
-pub one-filled : (f : ℕ → ℕ) (n i x : ℕ) (xs : List ℕ) → i < n → x ≡ f i → Filled f n i xs → Filled f n (i + 1) (set xs i x)
-one-filled f n i x xs h e filled = (
-  omega arith,
-  length-set xs i x ∙ filled.1,
-  stored (λ k y. y ≡ f k) xs i x (subst (λ (l : ℕ). i < l) (sym filled.1) h) e filled.2,
-)
-
-pub all-filled : (f : ℕ → ℕ) (n i : ℕ) (xs : List ℕ) → i ≡ n → Filled f n i xs → xs ≡ listed f 0 n
-all-filled f n i xs e filled = is-listed f xs n filled.1 (λ k h. filled.2 k (subst (λ (l : ℕ). k < l) (sym e) h))
-
-pub cut-filled : (m n count i x : ℕ) (run xs : List ℕ) → 0 < m → i < count → x ≡ window (bit_of (m * n) (run ⟨ i / m ⟩)) (i % m * n) n
-    → Filled (cuts m n run) count i xs → Filled (cuts m n run) count (i + 1) (set xs i x)
-cut-filled m n count i x run xs pos h e = one-filled (cuts m n run) count i x xs h (e ∙ one-cut m n pos (λ j. run ⟨ j ⟩) i)

@@ -11,7 +11,18 @@ ghost use Rattle.zuc.specs.Reading.{counted_of, held_of};
 
 use mac_registers::sums::joined;
 use mac_registers::{TagState, wide_at};
+use std::array;
 use zuc::{Generator, Zuc};
+
+// A generator's sixteen places, R1, R2.
+fn placed(z: Zuc) -> [u32; 18]
+    ensures { result ≡ placed (held_of z) }
+{
+    let mut a = [0u32; 18];
+    a[..16].copy_from_slice(&z.s);
+    a[16..].copy_from_slice(&[z.r1, z.r2]);
+    a
+}
 
 // A generator: the sixteen places, R1, R2, the start index, the count of words drawn.
 pub fn array_of(g: Generator) -> [u32; 20]
@@ -19,30 +30,10 @@ pub fn array_of(g: Generator) -> [u32; 20]
     ensures is { result ≡ array_of (counted_of g) }
     ensures back { held_in result ≡ counted_of g }
 {
-    let z = g.z;
-    let s = z.s;
-    [
-        s[0],
-        s[1],
-        s[2],
-        s[3],
-        s[4],
-        s[5],
-        s[6],
-        s[7],
-        s[8],
-        s[9],
-        s[10],
-        s[11],
-        s[12],
-        s[13],
-        s[14],
-        s[15],
-        z.r1,
-        z.r2,
-        z.start as u32,
-        g.count as u32,
-    ]
+    let mut a = [0u32; 20];
+    a[..18].copy_from_slice(&placed(g.z));
+    a[18..].copy_from_slice(&[g.z.start as u32, g.count as u32]);
+    a
 }
 
 // The first sixteen words of an array.
@@ -51,9 +42,7 @@ fn places_in(a: &[u32]) -> [u32; 16]
     ensures { result ≡ take 16 a.now }
 {
     let mut places = [0u32; 16];
-    for i in 0usize..16 {
-        places[i] = a[i];
-    }
+    places.copy_from_slice(&a[..16]);
     places
 }
 
@@ -62,10 +51,9 @@ pub fn state_in(a: [u32; 20]) -> Generator
     ensures back { array_of (counted_of result) ≡ a }
     ensures small { (result.z.start < 2 ^ 32) × (result.count < 2 ^ 32) }
 {
-    let s = places_in(&a);
     Generator {
         z: Zuc {
-            s,
+            s: places_in(&a),
             r1: a[16],
             r2: a[17],
             start: a[18] as usize,
@@ -78,16 +66,11 @@ pub fn state_in(a: [u32; 20]) -> Generator
 fn words_of(z: Zuc) -> [u64; 9]
     ensures { result ≡ regrouped 32 64 9 (placed (held_of z)) }
 {
-    let s = z.s;
-    let mut words = [0u64; 9];
-    for i in 0usize..8 {
-        words[i] = joined(s[2 * i], s[2 * i + 1]);
-    }
-    words[8] = joined(z.r1, z.r2);
-    words
+    let a = placed(z);
+    array::from_fn(|i| joined(a[2 * i], a[2 * i + 1]))
 }
 
-// One half of a word, the high one first.
+// One half of a word, the high one first. It and byte_of stay two: one function over u32 and u8 would need a trait for two casts.
 fn half_of(word: u64, k: usize) -> u32
     requires { k < 2 }
     ensures { result ≡ window (bit_of 64 word) (k * 32) 32 }
@@ -106,21 +89,13 @@ fn byte_of(word: u64, k: usize) -> u8
 fn halves_in(a: [u64; 21]) -> [u32; 18]
     ensures { result ≡ regrouped 64 32 18 (take 9 a) }
 {
-    let mut halves = [0u32; 18];
-    for i in 0usize..18 {
-        halves[i] = half_of(a[i / 2], i % 2);
-    }
-    halves
+    array::from_fn(|i| half_of(a[i / 2], i % 2))
 }
 
 fn bytes_in(a: [u64; 21]) -> [u8; 16]
     ensures { result ≡ regrouped 64 8 16 (take 2 (drop 17 a)) }
 {
-    let mut bytes = [0u8; 16];
-    for i in 0usize..16 {
-        bytes[i] = byte_of(a[17 + i / 8], i % 8);
-    }
-    bytes
+    array::from_fn(|i| byte_of(a[17 + i / 8], i % 8))
 }
 
 // A generator out of a tag state's array.
@@ -128,9 +103,8 @@ fn generator_in(a: [u64; 21]) -> Zuc
     ensures { held_of result ≡ held_from (a ⟨ 9 ⟩) (regrouped 64 32 18 (take 9 a)) }
 {
     let halves = halves_in(a);
-    let s = places_in(&halves);
     Zuc {
-        s,
+        s: places_in(&halves),
         r1: halves[16],
         r2: halves[17],
         start: a[9] as usize,
@@ -142,24 +116,12 @@ pub fn tag_array_of(s: TagState, count: usize) -> [u64; 21]
     ensures is { result ≡ tag_array_of (record { held = stored_of s; count = count }) }
     ensures back { stored_in result ≡ record { held = stored_of s; count = count } }
 {
-    let g = s.g;
     let key = s.key;
     let tag = s.tag;
-    let rem = s.rem;
-    let w = words_of(g);
-    let high = wide_at(&rem, 0);
-    let low = wide_at(&rem, 8);
-    [
-        w[0],
-        w[1],
-        w[2],
-        w[3],
-        w[4],
-        w[5],
-        w[6],
-        w[7],
-        w[8],
-        g.start as u64,
+    let mut a = [0u64; 21];
+    a[..9].copy_from_slice(&words_of(s.g));
+    a[9..].copy_from_slice(&[
+        s.g.start as u64,
         count as u64,
         key[0],
         key[1],
@@ -167,11 +129,12 @@ pub fn tag_array_of(s: TagState, count: usize) -> [u64; 21]
         key[3],
         tag[0],
         tag[1],
-        high,
-        low,
+        wide_at(&s.rem, 0),
+        wide_at(&s.rem, 8),
         s.cnt as u64,
         s.width as u64,
-    ]
+    ]);
+    a
 }
 
 // The count of words drawn is word 10, which a caller reads itself.
@@ -179,13 +142,11 @@ pub fn tag_state_in(a: [u64; 21]) -> TagState
     ensures is { record { held = stored_of result; count = a ⟨ 10 ⟩ } ≡ stored_in a }
     ensures back { tag_array_of (record { held = stored_of result; count = a ⟨ 10 ⟩ }) ≡ a }
 {
-    let g = generator_in(a);
-    let rem = bytes_in(a);
     TagState {
-        g,
+        g: generator_in(a),
         key: [a[11], a[12], a[13], a[14]],
         tag: [a[15], a[16]],
-        rem,
+        rem: bytes_in(a),
         cnt: a[19] as usize,
         width: a[20] as usize,
     }

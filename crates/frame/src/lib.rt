@@ -10,7 +10,8 @@ ghost use Rattle.standard.specs.Frame.{body_fits, body_in, fields_in, four_at, f
 ghost use Rattle.standard.specs.Refusals.{accepted, tested};
 
 use refusals::Refusal;
-use words::{byte_of, copy, fields_fit, keep_high, word_of};
+use words::{fields_fit, keep_high, word_of};
+
 
 // What a frame carries beside its body.
 #[derive(Clone, Copy, Debug, PartialEq, Eq)]
@@ -117,35 +118,23 @@ fn head(f: FrameFields, n: u32) -> [u8; 13]
     requires { n ≤ 65521 }
     ensures { result ≡ head_of (fields_of f) n }
 {
-    let c = f.count;
-    let l = f.bits;
-    let m = n + 14;
+    let [_, _, n2, n3] = (n + 14).to_be_bytes();
+    let [c0, c1, c2, c3] = f.count.to_be_bytes();
+    let [l0, l1, l2, l3] = f.bits.to_be_bytes();
     [
         1,
-        byte_of(m, 2),
-        byte_of(m, 3),
-        byte_of(c, 0),
-        byte_of(c, 1),
-        byte_of(c, 2),
-        byte_of(c, 3),
+        n2,
+        n3,
+        c0,
+        c1,
+        c2,
+        c3,
         f.bearer,
         f.direction,
-        byte_of(l, 0),
-        byte_of(l, 1),
-        byte_of(l, 2),
-        byte_of(l, 3),
-    ]
-}
-
-// The four bytes of a tag.
-fn tag_bytes(tag: u32) -> [u8; 4]
-    ensures { result ≡ bytes_of tag }
-{
-    [
-        byte_of(tag, 0),
-        byte_of(tag, 1),
-        byte_of(tag, 2),
-        byte_of(tag, 3),
+        l0,
+        l1,
+        l2,
+        l3,
     ]
 }
 
@@ -157,10 +146,9 @@ fn seal(ck: &[u8], ik: &[u8], f: FrameFields, frame: &mut [u8])
     let n = frame.len();
     let end = n - 4;
     mask_body(ck, f, &mut frame[13..end]);
-    let tag = tag_bytes(tag_over(ik, f, &frame[13..end]));
-    copy(&mut frame[end..n], &tag);
-    let h = head(f, (n - 17) as u32);
-    copy(&mut frame[0..13], &h);
+    let tag = tag_over(ik, f, &frame[13..end]);
+    frame[end..n].copy_from_slice(&tag.to_be_bytes());
+    frame[0..13].copy_from_slice(&head(f, (n - 17) as u32));
 }
 
 // Finds the plain body at byte 13, masks it there and fills in every other byte; or BadKey, BadFrame, BadLength, BadField, BadBody, in this order.

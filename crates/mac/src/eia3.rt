@@ -6,16 +6,13 @@ ghost use Rattle.standard.specs.Integrity.{IV-EIA3};
 
 use super::{Mac128, begin_from};
 use refusals::Refusal;
-use words::{byte_of, fields_fit};
+use words::fields_fit;
 
 // The IV. A bearer keeps its low 5 bits, a direction its low bit.
 fn iv(count: u32, bearer: u8, direction: u8) -> [u8; 16]
     ensures { result ≡ IV-EIA3 count bearer direction }
 {
-    let c0 = byte_of(count, 0);
-    let c1 = byte_of(count, 1);
-    let c2 = byte_of(count, 2);
-    let c3 = byte_of(count, 3);
+    let [c0, c1, c2, c3] = count.to_be_bytes();
     let b = bearer % 32 * 8;
     let d = direction % 2 * 128;
     [

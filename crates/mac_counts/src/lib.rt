@@ -21,7 +21,8 @@ pub fn to_update(width: usize, waiting: usize, n: usize) -> usize
     width / 4 * wholes(width, waiting, n)
 }
 
-// A closing of ZUC-128 or EIA3 by l bits, where some bytes wait.
+// A closing of ZUC-128 or EIA3 by l bits, where some bytes wait. It and ZUC-256's stay two functions, as their tags do below: the documents
+// count words begun here and blocks completed there, so that one function would be a switch.
 pub fn to_close_128(waiting: usize, l: usize) -> usize
     requires { waiting < 4 }
     ensures { result ≡ words_to_close-EIA3 waiting l }
@@ -41,7 +42,7 @@ pub fn to_close_256(width: usize, waiting: usize, l: usize) -> usize
 pub fn by_tag_128(l: usize) -> usize
     ensures { result ≡ drawn_by_tag-EIA3 l }
 {
-    wholes(32, 31, l) + 2
+    l.div_ceil(32) + 2
 }
 
 pub fn by_tag_256(width: usize, l: usize) -> usize

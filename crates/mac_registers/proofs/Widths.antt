@@ -98,8 +98,8 @@ module _ (w : ℕ) (k t block : List ℕ) where
         f j = (k ⟨ 0 ⟩ ∷ k ⟨ 1 ⟩ ∷ []) ⟨ j ⟩
 
     pub summed-16 : w ≡ 16 → (hi lo : ℕ) → t ⟨ 1 ⟩ < 2 ^ 64 → lo < 2 ^ 64
-        → (hi ≡ T 64 (stream_of (k ⟨ 0 ⟩ ∷ k ⟨ 1 ⟩ ∷ k ⟨ 2 ⟩ ∷ k ⟨ 3 ⟩ ∷ [])) 0 (M block) 128)
-        × (lo ≡ T 64 (stream_of (k ⟨ 0 ⟩ ∷ k ⟨ 1 ⟩ ∷ k ⟨ 2 ⟩ ∷ k ⟨ 3 ⟩ ∷ [])) 64 (M block) 128)
+        → (hi ≡ T 64 (stream_of k) 0 (M block) 128)
+        × (lo ≡ T 64 (stream_of k) 64 (M block) 128)
         → Summed ((t ⟨ 0 ⟩ ⊕ hi) ∷ (t ⟨ 1 ⟩ ⊕ lo) ∷ [])
     unfolding tag_of key_of
     summed-16 e hi lo h h' s =
@@ -110,7 +110,7 @@ module _ (w : ℕ) (k t block : List ℕ) where
         ∙ tag-words-16 (t ⟨ 0 ⟩ ⊕ hi) (t ⟨ 1 ⟩ ⊕ lo) (xor_lt 64 (t ⟨ 1 ⟩) lo h h')))
       where
         f : ℕ → ℕ
-        f j = (k ⟨ 0 ⟩ ∷ k ⟨ 1 ⟩ ∷ k ⟨ 2 ⟩ ∷ k ⟨ 3 ⟩ ∷ []) ⟨ j ⟩
+        f j = k ⟨ j ⟩
 
         sum : hi ‖₆₄ lo ≡ T 128 (bit_of 256 ((k ⟨ 0 ⟩ ‖₆₄ k ⟨ 1 ⟩) ‖₁₂₈ (k ⟨ 2 ⟩ ‖₆₄ k ⟨ 3 ⟩))) 0 (M block) 128
         sum =

@@ -118,10 +118,10 @@ pub fn tag_with(width: usize, key: [u64; 4], tag: [u64; 2], block: &[u8]) -> [u6
 {
     match width {
         4 => [tag[0] ^ (sum_32(key[0], block, 0) as u64), 0],
-        8 => [tag[0] ^ sum_64(key[0], key[1], block), 0],
+        8 => [tag[0] ^ sum_64([key[0], key[1]], block), 0],
         _ => {
-            let sum = sum_128(key[0], key[1], key[2], key[3], block);
-            [tag[0] ^ sum.x0, tag[1] ^ sum.x1]
+            let sum = sum_128(key, block);
+            [tag[0] ^ sum[0], tag[1] ^ sum[1]]
         }
     }
 }

@@ -8,12 +8,13 @@ use native.Mathlib.Numerals.{add-one}
 use native.Mathlib.Omega.{arith}
 use lib.Bits.{bit_xor, xor_lt}
 use lib.Dec.{ltb}
-use lib.ListN.{take}
+use lib.ListN.{length, take}
 use borrow.Author.Tests.{le-ltb, lt-ltb}
 use Rattle.std.specs.Prelude.{if◌then◌else◌}
-use Rattle.standard.specs.Notation.{◌⊕◌}
+use Rattle.standard.specs.Notation.{◌⊕◌, ◌⟨◌⟩, listed}
 use Rattle.standard.specs.Bits.{window}
 use Rattle.standard.specs.Integrity.{T}
+use Rattle.standard.proofs.Listed.{listed-on}
 use Rattle.standard.proofs.Register.{window-none, window-up, window-xor}
 use Rattle.standard.proofs.Sum.{sum-ext, sum_lt, sum-split}
 use Rattle.standard.proofs.Window.{window-ext}
@@ -109,6 +110,30 @@ over-words f g bf bg k up p (suc n) =
   where
     place : (j : ℕ) → p + k + j ≡ k + (p + j)
     place j = omega arith
+
+-- word by word: each with the next one of the register below it
+pub over-listed : (k n : ℕ) (vs xs : List ℕ) → length vs ≡ n → length xs ≡ n
+    → listed (λ i. vs ⟨ i ⟩ ⊕ raised k (xs ⟨ i ⟩) (xs ⟨ i + 1 ⟩)) 0 n ≡ over k vs (xs ++ (0 ∷ []))
+unfolding listed
+over-listed k zero [] xs e f = refl
+over-listed k zero (v ∷ vs) xs e f = absurd (omega (arith, e))
+over-listed k (suc n) [] xs e f = absurd (omega (arith, e))
+over-listed k (suc n) (v ∷ vs) [] e f = absurd (omega (arith, f))
+over-listed k (suc n) (v ∷ vs) (x ∷ xs) e f =
+    ap₂ (λ (y : ℕ) (l : List ℕ). y ∷ l) (ap (λ (y : ℕ). v ⊕ raised k x y) (first xs))
+    (listed-on (λ i. (v ∷ vs) ⟨ i ⟩ ⊕ raised k ((x ∷ xs) ⟨ i ⟩) ((x ∷ xs) ⟨ i + 1 ⟩)) (λ i. vs ⟨ i ⟩ ⊕ raised k (xs ⟨ i ⟩) (xs ⟨ i + 1 ⟩)) 1 0 n
+    (λ i. ap₂ (λ (p q : ℕ). (v ∷ vs) ⟨ p ⟩ ⊕ raised k ((x ∷ xs) ⟨ p ⟩) ((x ∷ xs) ⟨ q ⟩)) (one i) (one-more i))
+    ∙ over-listed k n vs xs (omega (arith, e)) (omega (arith, f)))
+  where
+    one : (i : ℕ) → 1 + i ≡ suc (0 + i)
+    one i = omega arith
+
+    one-more : (i : ℕ) → 1 + i + 1 ≡ suc (0 + i + 1)
+    one-more i = omega arith
+
+    first : (xs : List ℕ) → xs ⟨ 0 ⟩ ≡ (xs ++ (0 ∷ [])) ⟨ 0 ⟩
+    first [] = refl
+    first (x ∷ xs) = refl
 
 -- a turn of a register of n words
 pub row_more : (e : ℕ → ℕ → ℕ) → ((j i : ℕ) → e j i < 2) → (n i : ℕ) (v x r : List ℕ) → v ≡ words_from (e i) 0 n → x ≡ words_from (row (n * 64) e i) 0 n

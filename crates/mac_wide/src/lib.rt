@@ -2,11 +2,13 @@
 // bytes of the message's words. No branch goes by a message bit.
 #![tactic(auto)]
 
-ghost use Rattle.std.specs.Prelude.{length, [], ◌∷◌, ◌≡◌, ◌*◌, ◌≤◌, ◌<◌};
+ghost use Rattle.std.specs.Prelude.{length, [], ◌∷◌, ◌++◌, ◌≡◌, ◌+◌, ◌*◌, ◌≤◌, ◌<◌};
 ghost use Rattle.standard.specs.Bits.{M, window};
 ghost use Rattle.standard.specs.Integrity.{T};
 ghost use Rattle.standard.specs.Notation.{◌⊕◌, ◌⟨◌⟩};
 ghost use Rattle.mac_wide.specs.InnerRows.{four_on, multiples_of, over, raised, stream_of};
+
+use std::array;
 
 // x moved up by k bits, with the top bits of y below it.
 fn up(x: u64, y: u64, k: u32) -> u64
@@ -60,103 +62,64 @@ fn last_four(block: &[u8], at: usize) -> usize
     (block[at] % 16) as usize
 }
 
-fn entry(table: &[u64; 16], n: usize) -> u64
-    requires { n < 16 }
-    ensures { result ≡ table.now ⟨ n ⟩ }
+// A word of a register, and 0 past its last one.
+fn word_of<const N: usize>(x: &[u64; N], i: usize) -> u64
+    ensures { result ≡ x.now ⟨ i ⟩ }
 {
-    table[n]
+    if i < N { x[i] } else { 0 }
 }
 
-// A register of two words.
-#[derive(Clone, Copy)]
-pub struct Two {
-    pub x0: u64,
-    pub x1: u64,
-}
-
-// The register moves up by a byte, and the entry of four message bits goes in, by a table for each of its words.
-fn turn_64(a: &[u64; 16], b: &[u64; 16], n: usize, x: Two) -> Two
-    requires { n < 16 }
-    ensures { result.x0 ∷ result.x1 ∷ [] ≡ over 8 (a.now ⟨ n ⟩ ∷ b.now ⟨ n ⟩ ∷ []) (x.x0 ∷ x.x1 ∷ 0 ∷ []) }
+// A register of N words moves up by a byte, and the entry of four message bits goes in, word by word.
+fn turn<const N: usize>(entry: [u64; N], x: [u64; N]) -> [u64; N]
+    ensures { result ≡ over 8 entry.entry (x.entry ++ (0 ∷ [])) }
 {
-    Two {
-        x0: entry(a, n) ^ up(x.x0, x.x1, 8),
-        x1: entry(b, n) ^ up(x.x1, 0, 8),
-    }
+    array::from_fn(
+        |i: usize| -> u64
+            requires { i < N }
+            ensures { result ≡ entry ⟨ i ⟩ ⊕ raised 8 (x ⟨ i ⟩) (x ⟨ i + 1 ⟩) }
+        { entry[i] ^ up(x[i], word_of(&x, i + 1), 8) },
+    )
 }
 
 // The last byte first. What is lost below never reaches the bits that are read: those of the low row lie four further down.
-pub fn sum_64(k0: u64, k1: u64, block: &[u8]) -> u64
+// This and sum_128 stay two: no const argument is computed, so one generic sum would take W words, W + 1 of a register and 2 * W tables as three
+// parameters tied by clauses, and loop over the words of an entry. Index i counts bytes from the end of both message words at once.
+pub fn sum_64(key: [u64; 2], block: &[u8]) -> u64
     requires { 8 ≤ length block.now }
-    ensures { result ≡ T 64 (stream_of (k0 ∷ k1 ∷ [])) 0 (M block.now) 64 }
+    ensures { result ≡ T 64 (stream_of key) 0 (M block.now) 64 }
 {
-    let a = multiples(k0, k1);
-    let b = multiples(k1, 0);
-    let mut high = Two { x0: 0, x1: 0 };
-    let mut low = Two { x0: 0, x1: 0 };
+    let a = multiples(key[0], key[1]);
+    let b = multiples(key[1], 0);
+    let mut high = [0u64; 2];
+    let mut low = [0u64; 2];
     for i in 0usize..8 {
-        low = turn_64(&a, &b, last_four(block, 7 - i), low);
-        high = turn_64(&a, &b, first_four(block, 7 - i), high);
+        let n = last_four(block, 7 - i);
+        low = turn([a[n], b[n]], low);
+        let n = first_four(block, 7 - i);
+        high = turn([a[n], b[n]], high);
     }
-    high.x0 ^ up(low.x0, low.x1, 4)
-}
-
-// A register of three words.
-#[derive(Clone, Copy)]
-pub struct Three {
-    pub x0: u64,
-    pub x1: u64,
-    pub x2: u64,
+    high[0] ^ up(low[0], low[1], 4)
 }
 
 // The second message word stands 64 bits further on in the key, so its entry has the next tables.
-fn turn_128(
-    a: &[u64; 16],
-    b: &[u64; 16],
-    c: &[u64; 16],
-    d: &[u64; 16],
-    n: usize,
-    m: usize,
-    x: Three,
-) -> Three
-    requires { (n < 16) × (m < 16) }
-    ensures { result.x0 ∷ result.x1 ∷ result.x2 ∷ [] ≡ over 8 ((a.now ⟨ n ⟩ ⊕ b.now ⟨ m ⟩) ∷ (b.now ⟨ n ⟩ ⊕ c.now ⟨ m ⟩) ∷ (c.now ⟨ n ⟩ ⊕ d.now ⟨ m ⟩) ∷ []) (x.x0 ∷ x.x1 ∷ x.x2 ∷ 0 ∷ []) }
-{
-    Three {
-        x0: entry(a, n) ^ entry(b, m) ^ up(x.x0, x.x1, 8),
-        x1: entry(b, n) ^ entry(c, m) ^ up(x.x1, x.x2, 8),
-        x2: entry(c, n) ^ entry(d, m) ^ up(x.x2, 0, 8),
-    }
-}
-
-pub fn sum_128(k0: u64, k1: u64, k2: u64, k3: u64, block: &[u8]) -> Two
+pub fn sum_128(key: [u64; 4], block: &[u8]) -> [u64; 2]
     requires { 16 ≤ length block.now }
-    ensures { (result.x0 ≡ T 64 (stream_of (k0 ∷ k1 ∷ k2 ∷ k3 ∷ [])) 0 (M block.now) 128) × (result.x1 ≡ T 64 (stream_of (k0 ∷ k1 ∷ k2 ∷ k3 ∷ [])) 64 (M block.now) 128) }
+    ensures { (result ⟨ 0 ⟩ ≡ T 64 (stream_of key) 0 (M block.now) 128) × (result ⟨ 1 ⟩ ≡ T 64 (stream_of key) 64 (M block.now) 128) }
 {
-    let a = multiples(k0, k1);
-    let b = multiples(k1, k2);
-    let c = multiples(k2, k3);
-    let d = multiples(k3, 0);
-    let mut high = Three {
-        x0: 0,
-        x1: 0,
-        x2: 0,
-    };
-    let mut low = Three {
-        x0: 0,
-        x1: 0,
-        x2: 0,
-    };
+    let a = multiples(key[0], key[1]);
+    let b = multiples(key[1], key[2]);
+    let c = multiples(key[2], key[3]);
+    let d = multiples(key[3], 0);
+    let mut high = [0u64; 3];
+    let mut low = [0u64; 3];
     for i in 0usize..8 {
-        let n = last_four(block, 7 - i);
-        let m = last_four(block, 15 - i);
-        low = turn_128(&a, &b, &c, &d, n, m, low);
-        let n = first_four(block, 7 - i);
-        let m = first_four(block, 15 - i);
-        high = turn_128(&a, &b, &c, &d, n, m, high);
+        let (n, m) = (last_four(block, 7 - i), last_four(block, 15 - i));
+        low = turn([a[n] ^ b[m], b[n] ^ c[m], c[n] ^ d[m]], low);
+        let (n, m) = (first_four(block, 7 - i), first_four(block, 15 - i));
+        high = turn([a[n] ^ b[m], b[n] ^ c[m], c[n] ^ d[m]], high);
     }
-    Two {
-        x0: high.x0 ^ up(low.x0, low.x1, 4),
-        x1: high.x1 ^ up(low.x1, low.x2, 4),
-    }
+    [
+        high[0] ^ up(low[0], low[1], 4),
+        high[1] ^ up(low[1], low[2], 4),
+    ]
 }

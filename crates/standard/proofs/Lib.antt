@@ -14,6 +14,7 @@ pub mod Register
 pub mod Extra
 pub mod Linear
 pub mod Listed
+pub mod Made
 pub mod Parts
 pub mod Loads
 pub mod Tested

@@ -1,5 +1,5 @@
-// Helpers that the language lacks: rotation, bytes of a word, the high bits of a byte, a slice copied, a bit length held against a byte count,
-// a bearer and a direction against their fields, words against what is left.
+// What several crates ask of a word or a number, in the documents' notation: rotation, bytes of a word, the high bits of a byte, a bit length
+// held against a byte count, a bearer and a direction against their fields, words against what is left.
 #![tactic(auto)]
 
 ghost use Rattle.std.specs.Prelude.{leb, length, ◌≡◌, ◌+◌, ◌*◌, ◌<◌, ◌≤◌};
@@ -9,30 +9,30 @@ ghost use Rattle.standard.specs.Notation.{◌‖₈◌, ◌⋘◌};
 ghost use Rattle.standard.specs.Refusals.{field_test};
 ghost use Rattle.standard.specs.States.{limit};
 
-// x rotated left by n, which is 1 to 31.
+// x rotated left by n, which is 1 to 31: the library's rotation, with the documents' ⋘ for what it gives.
 pub fn rol(x: u32, n: u32) -> u32
     requires { (0 < n) × (n < 32) }
     ensures { result ≡ x ⋘ n }
 {
-    (x << n) | (x >> (32 - n))
+    x.rotate_left(n)
 }
 
-// Four bytes as one word, highest first.
+// Four bytes as one word, highest first: the library's conversion, with the documents' || for what it gives.
 pub fn word_of(a: u8, b: u8, c: u8, d: u8) -> u32
     ensures { result ≡ a ‖₈ b ‖₈ c ‖₈ d }
 {
-    ((a as u32) << 24) + ((b as u32) << 16) + ((c as u32) << 8) + (d as u32)
+    u32::from_be_bytes([a, b, c, d])
 }
 
-// Byte j of a word, the highest first.
+// Byte j of a word, the highest first, for the loops that take one byte; who takes all four calls `to_be_bytes`.
 pub fn byte_of(w: u32, j: usize) -> u8
     requires { j < 4 }
     ensures { result ≡ byte_of w j }
 {
-    ((w >> (8 * (3 - j))) % 256) as u8
+    w.to_be_bytes()[j]
 }
 
-// The k high bits of a byte.
+// The k high bits of a byte: as a u32, since a byte can't be shifted by 8.
 pub fn keep_high(byte: u8, k: usize) -> u8
     requires { k ≤ 8 }
     ensures { result ≡ keep_high k byte }
@@ -41,39 +41,18 @@ pub fn keep_high(byte: u8, k: usize) -> u8
     (((byte as u32) >> low) << low) as u8
 }
 
-// A slice copied into another of its length.
-pub fn copy(to: &mut [u8], from: &[u8])
-    requires { length to.old ≡ length from.now }
-    ensures { to.new ≡ from.now }
-{
-    for i in 0..from.len() {
-        to[i] = from[i];
-    }
-}
-
 // Whether a bit length is at most 8 times a number of bytes. Nothing is multiplied, so nothing overflows.
 pub fn bits_fit(bits: usize, bytes: usize) -> bool
     ensures { result ≡ leb bits (bytes * 8) }
 {
-    // The bytes that the bits reach into.
-    let reached = bits / 8 + (bits % 8 + 7) / 8;
-    if reached <= bytes {
-        return true;
-    }
-    false
+    bits.div_ceil(8) <= bytes
 }
 
 // Whether a bearer has 5 bits and a direction one (request 2026-04).
 pub fn fields_fit(bearer: u8, direction: u8) -> bool
     ensures { result ≡ (field_test bearer direction).passes }
 {
-    if bearer > 31 {
-        return false;
-    }
-    if direction > 1 {
-        return false;
-    }
-    true
+    bearer <= 31 && direction <= 1
 }
 
 // The words of a start (request 2026-09).
@@ -84,8 +63,5 @@ pub fn has_left(count: usize, words: usize) -> bool
     requires { count ≤ limit }
     ensures { result ≡ leb (count + words) limit }
 {
-    if words <= LIMIT - count {
-        return true;
-    }
-    false
+    words <= LIMIT - count
 }

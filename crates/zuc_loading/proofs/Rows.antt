@@ -8,8 +8,7 @@ use mathlib.Core.List.{List, [], ◌∷◌}
 use mathlib.Core.Path.{◌≡◌, refl, subst, sym}
 use native.Mathlib.Omega.{arith}
 use Prim.Native.Nat.{ℕ, zero, suc, ◌+◌, ◌-◌, ◌<◌, ◌^◌}
-use Rattle.zuc_loading.specs.InnerRows.{Inside, Row, place}
-use Rattle.zuc_loading.specs.declared.zuc256.Places.{Places}
+use Rattle.zuc_loading.specs.InnerRows.{Inside, Places, Row, place}
 use Rattle.standard.proofs.Table.{and_left, and_right, at, every}
 use Rattle.standard.specs.Loading.{D, d-keystream, d-tag₁₂₈, d-tag₃₂, d-tag₆₄}
 

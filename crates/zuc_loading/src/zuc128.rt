@@ -4,6 +4,7 @@ ghost use Rattle.standard.specs.Loading.{load₁₂₈};
 ghost use Rattle.standard.specs.Notation.{◌‖₈◌, ◌‖₁₅◌};
 ghost use Rattle.zuc.specs.Reading.{loaded_of};
 
+use std::array;
 use zuc::Loaded;
 
 // The constants d, of 15 bits each.
@@ -26,10 +27,9 @@ pub fn load(key: &[u8], iv: &[u8]) -> Loaded
     requires iv_fits { length iv.now ≡ 16 }
     ensures { loaded_of result ≡ load₁₂₈ key.now iv.now }
 {
-    let d = D;
-    let mut s = [0u32; 16];
-    for i in 0usize..16 {
-        s[i] = cell(key[i], d[i], iv[i]);
+    Loaded {
+        s: array::from_fn(|i| cell(key[i], D[i], iv[i])),
+        r1: 0,
+        r2: 0,
     }
-    Loaded { s, r1: 0, r2: 0 }
 }

@@ -1,11 +1,11 @@
 // ZUC-256: the split of the IV and the load.
 ghost use Rattle.std.specs.Prelude.{drop, length, take, [], ◌∷◌, ◌≡◌};
-ghost use Rattle.zuc_loading.specs.InnerRows.{Inside, besides, joined, sextets, sextets_of};
+ghost use Rattle.zuc_loading.specs.InnerRows.{Inside, besides, joined, sextets};
 ghost use Rattle.standard.specs.Loading.{load₂₅₆};
 ghost use Rattle.standard.specs.Notation.{◌‖₇◌, ◌‖₈◌};
 ghost use Rattle.zuc.specs.Reading.{loaded_of};
 
-use words::copy;
+use std::array;
 use zuc::Loaded;
 
 // Where the key starts, and the IV behind it, in one array.
@@ -13,49 +13,31 @@ const K: usize = 0;
 
 const IV: usize = 32;
 
-// The places of a loaded cell's bytes: the one before its constant, and the two behind it.
-#[derive(Clone, Copy)]
-pub struct Places(pub usize, pub usize, pub usize);
-
-// The bytes of the loaded cells s0 to s15, as the paper lists them.
-const PLACES: [Places; 16] = [
-    Places(K + 0, K + 21, K + 16),
-    Places(K + 1, K + 22, K + 17),
-    Places(K + 2, K + 23, K + 18),
-    Places(K + 3, K + 24, K + 19),
-    Places(K + 4, K + 25, K + 20),
-    Places(IV + 0, K + 5, K + 26),
-    Places(IV + 1, K + 6, K + 27),
-    Places(IV + 10, K + 7, IV + 2),
-    Places(K + 8, IV + 3, IV + 11),
-    Places(K + 9, IV + 12, IV + 4),
-    Places(IV + 5, K + 10, K + 28),
-    Places(K + 11, IV + 6, IV + 13),
-    Places(K + 12, IV + 7, IV + 14),
-    Places(K + 13, IV + 15, IV + 8),
-    Places(K + 14, IV + 16, IV + 9),
-    Places(K + 15, K + 30, K + 29),
+// The places of the bytes of the loaded cells s0 to s15, as the paper lists them: the one before the constant, and the two behind it.
+const PLACES: [(usize, usize, usize); 16] = [
+    (K + 0, K + 21, K + 16),
+    (K + 1, K + 22, K + 17),
+    (K + 2, K + 23, K + 18),
+    (K + 3, K + 24, K + 19),
+    (K + 4, K + 25, K + 20),
+    (IV + 0, K + 5, K + 26),
+    (IV + 1, K + 6, K + 27),
+    (IV + 10, K + 7, IV + 2),
+    (K + 8, IV + 3, IV + 11),
+    (K + 9, IV + 12, IV + 4),
+    (IV + 5, K + 10, K + 28),
+    (K + 11, IV + 6, IV + 13),
+    (K + 12, IV + 7, IV + 14),
+    (K + 13, IV + 15, IV + 8),
+    (K + 14, IV + 16, IV + 9),
+    (K + 15, K + 30, K + 29),
 ];
 
-// Four numbers of 6 bits.
-#[derive(Clone, Copy)]
-pub struct Sextets {
-    pub a: u8,
-    pub b: u8,
-    pub c: u8,
-    pub d: u8,
-}
-
 // Three bytes as four numbers of 6 bits.
-fn split(x: u8, y: u8, z: u8) -> Sextets
-    ensures { sextets_of result ≡ sextets (x ∷ y ∷ z ∷ []) }
+fn split(x: u8, y: u8, z: u8) -> [u8; 4]
+    ensures { result ≡ sextets (x ∷ y ∷ z ∷ []) }
 {
-    Sextets {
-        a: x >> 2,
-        b: x % 4 * 16 + (y >> 4),
-        c: y % 16 * 4 + (z >> 6),
-        d: z % 64,
-    }
+    [x >> 2, x % 4 * 16 + (y >> 4), y % 16 * 4 + (z >> 6), z % 64]
 }
 
 // A loaded cell, of 8, 7, 8 and 8 bits.
@@ -69,23 +51,23 @@ fn concat_bits(a: u8, b: u8, c: u8, d: u8) -> u32
 fn beside(x: [u8; 55]) -> [u8; 16]
     ensures { result ≡ besides (take 32 x) (drop 32 x) }
 {
-    let p = split(x[IV + 17], x[IV + 18], x[IV + 19]);
-    let q = split(x[IV + 20], x[IV + 21], x[IV + 22]);
-    let k31 = x[31];
+    let [p0, p1, p2, p3] = split(x[IV + 17], x[IV + 18], x[IV + 19]);
+    let [q0, q1, q2, q3] = split(x[IV + 20], x[IV + 21], x[IV + 22]);
+    let k31 = x[K + 31];
     [
         0,
         0,
         0,
         0,
         0,
-        p.a,
-        p.b,
-        p.c,
-        p.d,
-        q.a,
-        q.b,
-        q.c,
-        q.d,
+        p0,
+        p1,
+        p2,
+        p3,
+        q0,
+        q1,
+        q2,
+        q3,
         0,
         k31 >> 4,
         k31 % 16,
@@ -93,28 +75,25 @@ fn beside(x: [u8; 55]) -> [u8; 16]
 }
 
 // The cells: constants d with bits b beside them, each between the bytes of x at its places.
-fn join(places: [Places; 16], d: [u8; 16], b: [u8; 16], x: [u8; 55]) -> [u32; 16]
+fn join(places: [(usize, usize, usize); 16], d: [u8; 16], b: [u8; 16], x: [u8; 55]) -> [u32; 16]
     requires { Inside places }
     ensures { result ≡ joined places d b x }
 {
-    let mut s = [0u32; 16];
-    for i in 0usize..16 {
-        let p = places[i];
-        let first = p.0;
-        let third = p.1;
-        let last = p.2;
-        s[i] = concat_bits(x[first], d[i] | b[i], x[third], x[last]);
-    }
-    s
+    array::from_fn(|i| {
+        let (first, third, last) = places[i];
+        concat_bits(x[first], d[i] | b[i], x[third], x[last])
+    })
 }
 
 // The loaded cells of a key and the IV behind it.
 fn load_from(d: [u8; 16], x: [u8; 55]) -> Loaded
     ensures { loaded_of result ≡ load₂₅₆ d (take 32 x) (drop 32 x) }
 {
-    let b = beside(x);
-    let s = join(PLACES, d, b, x);
-    Loaded { s, r1: 0, r2: 0 }
+    Loaded {
+        s: join(PLACES, d, beside(x), x),
+        r1: 0,
+        r2: 0,
+    }
 }
 
 // The loaded cells, with a row of constants.
@@ -125,7 +104,7 @@ pub fn load(d: [u8; 16], key: &[u8], iv: &[u8]) -> Loaded
 {
     // an array, so that the load reads places that are known to be there
     let mut x = [0u8; 55];
-    copy(&mut x[..32], key);
-    copy(&mut x[32..], iv);
+    x[..32].copy_from_slice(key);
+    x[32..].copy_from_slice(iv);
     load_from(d, x)
 }

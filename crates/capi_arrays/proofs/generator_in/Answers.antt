@@ -14,5 +14,5 @@ returns c =
     let index : ℕ = c.args.a ⟨ 9 ⟩ in
     let h : List ℕ = c.halves_in-halves.result in
     let read : ◌≡◌ {A = Held} _ (held_from index h) =
-    λ i. record { meaning = record { cells = cells_from index (c.places_in-s.ensures i); R₁ = h ⟨ 16 ⟩; R₂ = h ⟨ 17 ⟩ }; start = index } in
+    λ i. record { meaning = record { cells = cells_from index (c.places_in.ensures i); R₁ = h ⟨ 16 ⟩; R₂ = h ⟨ 17 ⟩ }; start = index } in
     read ∙ ap (held_from index) c.halves_in-halves.ensures

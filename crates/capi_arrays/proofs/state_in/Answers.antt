@@ -24,7 +24,7 @@ returns c =
     λ i. record {
       held =
           record {
-            meaning = record { cells = cells_from (a ⟨ 18 ⟩) (c.places_in-s.ensures i); R₁ = a ⟨ 16 ⟩; R₂ = a ⟨ 17 ⟩ };
+            meaning = record { cells = cells_from (a ⟨ 18 ⟩) (c.places_in.ensures i); R₁ = a ⟨ 16 ⟩; R₂ = a ⟨ 17 ⟩ };
             start = a ⟨ 18 ⟩;
           };
       count = a ⟨ 19 ⟩;

@@ -1,14 +1,15 @@
--- `tag_array_of`: its literal is the generator's words, the key pair and the tag, written out, and the rest.
+-- `tag_array_of`: the generator's words, and behind them the key pair and the tag, written out, and the rest.
 use lib.Dec.{lit<}
 use lib.ListN.{length}
 use mathlib.Core.List.{[], ◌∷◌, ◌++◌}
-use mathlib.Core.Path.{◌≡◌, ◌∙◌, ap}
+use mathlib.Core.Path.{◌≡◌, ◌∙◌, ap, refl}
 use mir.Syntax.{w8, w32}
 use mir.Val.{Fits}
 use Prim.Native.Nat.{ℕ, ◌^◌, ◌<◌}
 use Rattle.capi_arrays.proofs.Packing.{Fit, all_listed, array-stored, turned-fits}
 use Rattle.capi_arrays.specs.Arrays.{regrouped, stored_in, tag_array_of}
 use Rattle.mac_registers.specs.Stored.{stored_of}
+use Rattle.standard.proofs.Made.{laid}
 use Rattle.standard.specs.Bits.{M}
 use Rattle.standard.specs.Notation.{◌⟨◌⟩, listed}
 use Rattle.zuc.proofs.Turning.{length_from}
@@ -36,15 +37,17 @@ fit s places keys tags rems cell_fits byte_fits r1 r2 =
 pub returns : goal.returns
 unfolding tag_array_of listed regrouped M
 returns c =
-    let words-full : length c.words_of-w.result ≡ 9 =
-    search rules in
     let s = c.args.s in
     let fits = fit c.args.s (search rules) (search rules) (search rules) (search rules) (λ k. search rules) (λ k. search rules) (search rules) (search rules) in
+    let full : length c.copy_from_slice.new.self ≡ 9 = search rules in
     let is : _ ≡ tag_array_of (record { held = stored_of s; count = c.args.count }) =
-    λ i.
-    (all_listed c.words_of-w.result 9 words-full ∙ c.words_of-w.ensures) i
-    ++ (s.g.start
+    laid 9 12 _ _ _ full refl
+    ∙ λ i.
+    (c.copy_from_slice.ensures.after ∙ c.words_of.ensures) i
+    ++ ((c.copy_from_slice-2.ensures.after
+    ∙ λ j.
+    s.g.start
     ∷ c.args.count
-    ∷ all_listed s.key 4 fits.key-full i
-    ++ (all_listed s.tag 2 fits.tag-full i ++ (c.wide_at-high.ensures i ∷ c.wide_at-low.ensures i ∷ s.cnt ∷ s.width ∷ []))) in
+    ∷ all_listed s.key 4 fits.key-full j
+    ++ (all_listed s.tag 2 fits.tag-full j ++ (c.wide_at.ensures j ∷ c.wide_at-2.ensures j ∷ s.cnt ∷ s.width ∷ []))) i) in
     record { is = is; back = ap stored_in is ∙ array-stored (record { held = stored_of s; count = c.args.count }) fits }

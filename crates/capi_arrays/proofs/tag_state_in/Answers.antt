@@ -24,10 +24,10 @@ returns c =
     λ i. record {
       held =
           record {
-            generator = c.generator_in-g.ensures i;
+            generator = c.generator_in.ensures i;
             key = part-listed a 11 4 (omega (arith, full)) i;
             tag = part-listed a 15 2 (omega (arith, full)) i;
-            rem = c.bytes_in-rem.ensures i;
+            rem = c.bytes_in.ensures i;
             cnt = a ⟨ 19 ⟩;
             width = a ⟨ 20 ⟩;
           };

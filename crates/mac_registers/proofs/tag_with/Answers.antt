@@ -1,6 +1,6 @@
 -- `registers::tag_with` meets its contract: at each width the block's sum goes into the tag's words.
 use mathlib.Core.Path.{◌≡◌}
-use Prim.Native.Nat.{ℕ, ◌<◌, ◌^◌}
+use Prim.Native.Nat.{ℕ}
 use native.Mathlib.Omega.{arith}
 use borrow.Author.Rules.{rules}
 use mir.Syntax.{w64}
@@ -32,8 +32,8 @@ returns-in_default c =
     λ i. search rules in
     let key-small : (i : ℕ) → Fits w64 (c.args.key ⟨ i ⟩) =
     λ i. search rules in
-    let sum-small : c.sum_128-sum.result.x1 < 2 ^ 64 =
-    search rules in
+    let sum-small : (i : ℕ) → Fits w64 (c.sum_128-sum.result ⟨ i ⟩) =
+    λ i. search rules in
     let a = c.args in
     summed-16 a.width a.key a.tag a.block.now (λ i. (key-small i).fits) (is-16 a.width c.requires.width_fits c.in_default.in_default-own.rest.0.1 c.in_default.in_default-own.rest.1)
-    c.sum_128-sum.result.x0 c.sum_128-sum.result.x1 (tag_small 1).fits sum-small c.sum_128-sum.ensures
+    (c.sum_128-sum.result ⟨ 0 ⟩) (c.sum_128-sum.result ⟨ 1 ⟩) (tag_small 1).fits (sum-small 1).fits c.sum_128-sum.ensures

@@ -1,6 +1,6 @@
 -- What the loop keeps.
 use mathlib.Core.Path.{◌≡◌}
-use mathlib.Core.List.{List, [], ◌∷◌}
+use mathlib.Core.List.{List}
 use Prim.Native.Nat.{ℕ, ◌-◌, ◌≤◌}
 use Rattle.standard.specs.Bits.{M}
 use Rattle.mac_wide.specs.InnerRows.{four_on, stream_of}
@@ -12,7 +12,7 @@ row_of key m i = words_from (row 128 (looked (stream_of key) m 1) i) 0 2
 
 abbrev pub invariant-loop-i : goal.invariant-loop-i
 invariant-loop-i l =
-    (l.i ≤ 8) × (l.high.x0 ∷ l.high.x1 ∷ [] ≡ row_of (l.k0 ∷ l.k1 ∷ []) (M l.block) l.i) × (l.low.x0 ∷ l.low.x1 ∷ [] ≡ row_of (l.k0 ∷ l.k1 ∷ []) (four_on (M l.block)) l.i)
+    (l.i ≤ 8) × (l.high ≡ row_of l.fn.key (M l.block) l.i) × (l.low ≡ row_of l.fn.key (four_on (M l.block)) l.i)
 
 abbrev pub decreases-loop-i : goal.decreases-loop-i
 decreases-loop-i l = 8 - l.i

@@ -1,11 +1,12 @@
 -- `load` is the ZUC-256 load: key and IV, copied into one array, are its two parts.
 use borrow.Rule.Slice.PartMut.{put_mid}
-use lib.ListN.{drop, drop_of_length-le, length, length-append, take}
+use lib.ListN.{drop, length, length-append, take}
 use lib.Seq.{drop_at, take_at}
-use mathlib.Core.List.{List, ◌++◌, append-nil}
+use mathlib.Core.List.{List, ◌++◌}
 use mathlib.Core.Path.{◌≡◌, ◌∙◌, ap, ap₂, refl}
 use native.Mathlib.Omega.{arith}
 use Prim.Native.Nat.{ℕ, ◌≤◌}
+use Rattle.standard.proofs.Made.{laid}
 use Rattle.standard.specs.Loading.{load₂₅₆}
 use Rattle.zuc_loading.proofs.zuc256.load.Goals as goal
 
@@ -16,17 +17,12 @@ ends k rest l m = omega (arith, length-append k rest)
 copied : (d k rest v key iv : List ℕ) → k ≡ key → v ≡ iv → length key ≡ 32 → length rest ≡ 23
     → load₂₅₆ d (take 32 (put_mid 32 23 (k ++ rest) v)) (drop 32 (put_mid 32 23 (k ++ rest) v)) ≡ load₂₅₆ d key iv
 copied d k rest v key iv e f l m =
-    ap (λ (x : List ℕ). load₂₅₆ d (take 32 x) (drop 32 x)) both ∙ ap₂ (load₂₅₆ d) (take_at key iv 32 l) (drop_at key iv 32 l)
-  where
-    both : put_mid 32 23 (k ++ rest) v ≡ key ++ iv
-    both =
-        ap₂ (λ (p q : List ℕ). put_mid 32 23 (p ++ rest) q) e f
-        ∙ ap₂ (λ (p q : List ℕ). p ++ (iv ++ drop 23 q)) (take_at key rest 32 l) (drop_at key rest 32 l)
-        ∙ ap (λ (q : List ℕ). key ++ q) (ap (λ (q : List ℕ). iv ++ q) (drop_of_length-le rest {i = 23} (omega arith)) ∙ append-nil iv)
+    ap (λ (x : List ℕ). load₂₅₆ d (take 32 x) (drop 32 x)) (laid 32 23 k v rest (ap length e ∙ l) m ∙ ap₂ (λ (x y : List ℕ). x ++ y) e f)
+    ∙ ap₂ (load₂₅₆ d) (take_at key iv 32 l) (drop_at key iv 32 l)
 
 pub slice_bounds-x-end-2 : goal.slice_bounds-x-end-2
 slice_bounds-x-end-2 c =
-    ends c.copy.new.to _ (ap length c.copy.ensures ∙ c.requires.key_fits) refl
+    ends c.copy_from_slice.new.self _ (ap length c.copy_from_slice.ensures.after ∙ c.requires.key_fits) refl
 
 pub returns : goal.returns
 returns c =
@@ -34,4 +30,4 @@ returns c =
     let copied-key = copied-iv in
     let start = copied-key in
     c.load_from.ensures
-    ∙ copied start.args.d copied-key.copy.new.to _ copied-iv.copy-2.new.to _ _ copied-key.copy.ensures copied-iv.copy-2.ensures start.requires.key_fits refl
+    ∙ copied start.args.d copied-key.copy_from_slice.new.self _ copied-iv.copy_from_slice-2.new.self _ _ copied-key.copy_from_slice.ensures.after copied-iv.copy_from_slice-2.ensures.after start.requires.key_fits refl

@@ -6,8 +6,7 @@ use mathlib.Core.Path.{◌≡◌, ◌∙◌, refl}
 use Prim.Native.Nat.{ℕ, ◌%◌, ◌+◌, ◌/◌, ◌^◌}
 use Rattle.zuc_loading.proofs.Behind.{apart, spelled}
 use Rattle.zuc_loading.proofs.Rows.{inside}
-use Rattle.zuc_loading.specs.InnerRows.{besides, joined, place}
-use Rattle.zuc_loading.specs.declared.zuc256.Places.{Places}
+use Rattle.zuc_loading.specs.InnerRows.{Places, besides, joined, place}
 use Rattle.standard.specs.Loading.{IV₂₅₆, cells₂₅₆, load₂₅₆}
 use Rattle.standard.specs.Notation.{◌‖₇◌, ◌‖₈◌, ◌∣◌, listed}
 use borrow.Author.Rules.{rules}
@@ -30,13 +29,13 @@ joined_is places d b x k iv e f =
     (λ i. joined places d (f i) (e i))
     ∙ (λ i. around places (middles (λ n. get_or k n 0) (λ n. or_zero_r (get_or d n 0) i) (λ n. get_or d n 0) (IV₂₅₆ iv)) (spelled k iv))
 
-pub join-s-requires : goal.join-s-requires
-join-s-requires c = inside _ refl
+pub join-requires : goal.join-requires
+join-requires c = inside _ refl
 
 pub returns : goal.returns
 unfolding load₂₅₆ cells₂₅₆ IV₂₅₆ listed
 returns c =
     let a = c.args in
-    let cells : c.join-s.result ≡ cells₂₅₆ (λ i. get_or (take 32 a.x) i 0) (λ i. get_or a.d i 0) (IV₂₅₆ (drop 32 a.x)) =
-    c.join-s.ensures ∙ joined_is _ a.d c.beside-b.result a.x (take 32 a.x) (drop 32 a.x) (apart a.x (search rules)) c.beside-b.ensures in
+    let cells : c.join.result ≡ cells₂₅₆ (λ i. get_or (take 32 a.x) i 0) (λ i. get_or a.d i 0) (IV₂₅₆ (drop 32 a.x)) =
+    c.join.ensures ∙ joined_is _ a.d c.beside.result a.x (take 32 a.x) (drop 32 a.x) (apart a.x (search rules)) c.beside.ensures in
     λ i. record { cells = cells i; R₁ = 0; R₂ = 0 }
