@@ -121,7 +121,7 @@ fn shown<const N: usize>(rt: &(impl Input + Print)) -> io::Result<()>
     requires { N < 2 ^ 63 }
 {
     let mut text = [0u8; N];
-    let got = read_full(rt, &mut text)?;
+    let got = read_full(&mut rt.reader(), &mut text)?;
     let n = pack(&mut text, got);
     let recorded = replay(part(&text, 0, n));
     tell(rt, recorded, "recorded answers")?;

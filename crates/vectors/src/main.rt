@@ -227,7 +227,7 @@ fn shown<const N: usize>(rt: &(impl Input + Print)) -> io::Result<()>
     requires { N < 2 ^ 63 }
 {
     let mut script = [0u8; N];
-    let n = read_full(rt, &mut script)?;
+    let n = read_full(&mut rt.reader(), &mut script)?;
     let tally = run(rt, front(&script, n))?;
     foot(rt, tally)
 }
