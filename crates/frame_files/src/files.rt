@@ -1,4 +1,4 @@
-// Keys, bodies and frames read from files.
+// Keys, bodies and frames read from files, into buffers of fixed size that the caller lends: no heap, since memory could run out.
 ghost use Rattle.std.specs.Prelude.{◌&&◌, ◌≡◌, ◌+◌, ◌≤◌, IfOk, IfSome, length};
 ghost use Rattle.frame_files.specs.Stream.{IsPrefixLen, frame_end};
 ghost use Rattle.standard.specs.Refusals.{key_test};
