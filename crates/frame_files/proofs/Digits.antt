@@ -5,7 +5,7 @@ use mathlib.Core.Path.{◌≡◌}
 use Prim.Native.Nat.{ℕ, ◌+◌, ◌-◌, ◌*◌, ◌<◌, ◌≤◌}
 use native.Mathlib.Numerals.{add-one}
 use native.Mathlib.Omega.{arith}
-use borrow.Author.Tests.{le-leb, leb-true, lt-leb}
+use borrow.Author.Tests.{leb-true}
 use lib.Dec.{leb}
 use lib.ListN.{drop, get_or, length}
 use lib.Seq.{drop-cons}
@@ -21,17 +21,13 @@ module _ (text : List ℕ) (i : ℕ) (h : i < length text) where
   from-here : drop i text ≡ get_or text i 0 ∷ drop (i + 1) text
   from-here = rw (add-one, drop-cons text i 0)
 
-  pub digit-on : 48 ≤ get_or text i 0 → get_or text i 0 ≤ 57 → all_digits (drop i text) ≡ all_digits (drop (i + 1) text)
+  pub digit-on : leb 48 (get_or text i 0) && leb (get_or text i 0) 57 ≡ true → all_digits (drop i text) ≡ all_digits (drop (i + 1) text)
   unfolding all_digits
-  digit-on low high = rw (from-here, le-leb, le-leb)
+  digit-on e = rw (from-here, e)
 
-  pub no-digit-low : get_or text i 0 < 48 → all_digits (drop i text) ≡ false
+  pub no-digit : leb 48 (get_or text i 0) && leb (get_or text i 0) 57 ≡ false → all_digits (drop i text) ≡ false
   unfolding all_digits
-  no-digit-low low = rw (from-here, lt-leb)
-
-  pub no-digit-high : 48 ≤ get_or text i 0 → 57 < get_or text i 0 → all_digits (drop i text) ≡ false
-  unfolding all_digits
-  no-digit-high low high = rw (from-here, le-leb, lt-leb)
+  no-digit e = rw (from-here, e)
 
   pub digit-here : all_digits (drop i text) ≡ true → (48 ≤ get_or text i 0) × (get_or text i 0 ≤ 57) × (all_digits (drop (i + 1) text) ≡ true)
   unfolding all_digits

@@ -1,21 +1,39 @@
 // What programs tell: on standard error, or on the writer that stands for it. A line that cannot be written is let go.
+use refusals::Refusal;
 use std::io::Write;
 use std::{fmt, io};
 
-pub fn text<W: Write>(to: &mut W, line: &[u8]) {
+// Why a program stops: it is used wrongly, a refusal by its number in the standard's table, or a stream that failed.
+#[derive(Clone, Copy, Debug)]
+pub enum Stop {
+    Usage(&'static str),
+    Refused(Refusal),
+    Input(io::Error),
+    Output(io::Error),
+}
+
+impl From<Refusal> for Stop {
+    fn from(refusal: Refusal) -> Stop {
+        Stop::Refused(refusal)
+    }
+}
+
+fn text<W: Write>(to: &mut W, line: &[u8]) {
     let _ = to.write_all(line);
 }
 
-// A name and a number.
-pub fn named<W: Write>(to: &mut W, name: &[u8], n: u32) {
-    text(to, name);
-    let _ = write!(to, "{n}");
-}
-
-// A refusal, by its number in the standard's table.
-pub fn refused<W: Write>(to: &mut W, number: u32) {
-    named(to, b"refused ", number);
-    text(to, b"\n");
+pub fn stopped<W: Write>(to: &mut W, why: Stop) {
+    match why {
+        Stop::Usage(usage) => {
+            let _ = writeln!(to, "usage: {usage}");
+        }
+        Stop::Refused(refusal) => {
+            let number = u32::from(refusal);
+            let _ = writeln!(to, "refused {number}");
+        }
+        Stop::Input(why) => failed(to, b"failed: standard input", why),
+        Stop::Output(why) => failed(to, b"failed: standard output", why),
+    }
 }
 
 // The system's words for an error, without the number that std puts behind them.
@@ -41,7 +59,7 @@ impl<W: Write> fmt::Write for Words<'_, W> {
     }
 }
 
-// What failed, as the caller names it, and why.
+// What failed, as the caller names it, and why. A file's name may be no text, so bytes.
 pub fn failed<W: Write>(to: &mut W, what: &[u8], why: io::Error) {
     text(to, what);
     text(to, b": ");

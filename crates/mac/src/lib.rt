@@ -21,13 +21,13 @@ pub mod zuc256;
 
 // The state of a ZUC-128 or EIA3 tag, and that of a ZUC-256 tag: two types, so that neither is closed by the other's rule unawares.
 // Beside each, how many words its start has drawn (request 2026-09).
-#[derive(Clone, Copy)]
+#[derive(Clone, Copy, Default)]
 pub struct Mac128 {
     pub state: TagState,
     pub count: usize,
 }
 
-#[derive(Clone, Copy)]
+#[derive(Clone, Copy, Default)]
 pub struct Mac256 {
     pub state: TagState,
     pub count: usize,

@@ -22,7 +22,7 @@ pub mod sums;
 
 // The generator, the key pair and the tag in 64-bit words (as many as the width asks, the others zero), the bytes that wait for a
 // block with zeros after them, their count, and the tag's width in bytes.
-#[derive(Clone, Copy)]
+#[derive(Clone, Copy, Default)]
 pub struct TagState {
     pub g: Zuc,
     pub key: [u64; 4],

@@ -5,109 +5,74 @@
 mod calls;
 mod record;
 
-ghost use Rattle.std.specs.Prelude.{◌^◌, ◌<◌, ◌≤◌};
+ghost use Rattle.std.specs.Prelude.{◌+◌, ◌^◌, ◌<◌, ◌≤◌, IfSome, length};
 
 use std::io;
+use vectors_parts::digit;
 use vectors_parts::input::read_full;
-use vectors_parts::{digit, least, part};
 
-// A digit read: a first one waits (16 stands for none), a second one makes a byte whole.
-#[derive(Clone, Copy)]
-struct Nibble {
-    high: u8,
-    byte: u8,
-    whole: usize,
-}
-
-fn fed(high: u8, c: u8) -> Nibble
-    requires { high ≤ 16 }
-    ensures { (result.high ≤ 16) × (result.whole ≤ 1) }
+// Hexadecimal text packed into bytes in place, every other character skipped: how many bytes. (By index: what is read and what is written is
+// one buffer.)
+fn pack(text: &mut [u8]) -> usize
+    ensures { result ≤ length text.old }
 {
-    let low = digit(c);
-    if low == 16 {
-        return Nibble {
-            high,
-            byte: 0,
-            whole: 0,
-        };
-    }
-    if high == 16 {
-        return Nibble {
-            high: low,
-            byte: 0,
-            whole: 0,
-        };
-    }
-    Nibble {
-        high: 16,
-        byte: high * 16 + low,
-        whole: 1,
-    }
-}
-
-// Hexadecimal text packed into bytes in place, every other character skipped: how many bytes.
-fn pack(text: &mut [u8], n: usize) -> usize {
-    let end = least(n, text.len());
     let mut out: usize = 0;
-    let mut high: u8 = 16;
-    for i in 0..end {
-        let f = fed(high, text[i]);
-        text[out] = f.byte;
-        high = f.high;
-        out += f.whole;
+    let mut waits = None;
+    for i in 0..text.len() {
+        let Some(low) = digit(text[i]) else {
+            continue;
+        };
+        match waits {
+            None => waits = Some(low * 16),
+            Some(high) => {
+                text[out] = high | low;
+                out += 1;
+                waits = None;
+            }
+        }
     }
     out
 }
 
-// Records run, how many of them differ, and the place after the list.
+// Records run, how many of them differ, and what follows the list.
 #[derive(Clone, Copy)]
-struct Tally {
+struct Tally<'a> {
     records: u64,
     differ: u64,
-    end: usize,
+    rest: &'a [u8],
 }
 
-// 1 for a record whose answer differs, and else 0.
-fn difference(record: &[u8]) -> u64
-    ensures { result ≤ 1 }
+// The record that bytes begin with, after its length, and what follows it: none where they end before.
+fn next_record(bytes: &[u8]) -> Option<(&[u8], &[u8])>
+    ensures { IfSome result (λ r. length r.1.now + 2 ≤ length bytes.now) }
 {
-    if calls::agrees(record) { 0 } else { 1 }
+    let (len, rest) = bytes.split_first_chunk::<2>()?;
+    rest.split_at_checked(usize::from(u16::from_be_bytes(*len)))
 }
 
 // Record after record until the one of no bytes.
-fn replay(bytes: &[u8]) -> Tally {
+fn replay(bytes: &[u8]) -> Tally<'_> {
     let mut records: u64 = 0;
     let mut differ: u64 = 0;
-    let mut left = bytes.len();
-    while 2 < left {
-        let at = bytes.len() - left;
-        let n = record::short_at(part(bytes, at, 2), 0);
-        if n == 0 {
-            return Tally {
-                records,
-                differ,
-                end: at + 2,
-            };
+    let mut rest = bytes;
+    while let Some((record, behind)) = next_record(rest) {
+        rest = behind;
+        if record.is_empty() {
+            break;
         }
-        if left - 2 < n {
-            return Tally {
-                records,
-                differ,
-                end: at,
-            };
+        if !calls::agrees(record) {
+            differ += 1;
         }
-        differ += difference(part(bytes, at + 2, n));
         records += 1;
-        left -= n + 2;
     }
     Tally {
         records,
         differ,
-        end: bytes.len(),
+        rest,
     }
 }
 
-fn tell(rt: &impl Print, t: Tally, what: &str) -> io::Result<()> {
+fn tell(rt: &impl Print, t: Tally<'_>, what: &str) -> io::Result<()> {
     let Tally {
         records,
         differ,
@@ -120,13 +85,13 @@ fn tell(rt: &impl Print, t: Tally, what: &str) -> io::Result<()> {
 fn shown<const N: usize>(rt: &(impl Input + Print)) -> io::Result<()>
     requires { N < 2 ^ 63 }
 {
-    let mut text = [0u8; N];
-    let got = read_full(rt, &mut text)?;
-    let n = pack(&mut text, got);
-    let recorded = replay(part(&text, 0, n));
+    let mut room = [0u8; N];
+    let got = read_full(&mut rt.reader(), &mut room)?;
+    let text = &mut room[..];
+    let n = pack(&mut text[..got]);
+    let recorded = replay(&text[..n]);
     tell(rt, recorded, "recorded answers")?;
-    let altered = replay(part(part(&text, 0, n), recorded.end, n));
-    tell(rt, altered, "altered answers")
+    tell(rt, replay(recorded.rest), "altered answers")
 }
 
 fn main(rt: HostRuntime) -> io::Result<()> {

@@ -4,9 +4,7 @@
 // A generator's array: sixteen places, R1, R2, the start index, the count.
 pub fn generator(g: [u32; 20]) -> [u32; 20] {
     let mut next = g;
-    for i in 0usize..16 {
-        next[(i + 1) % 16] = g[i];
-    }
+    next[..16].rotate_right(1);
     next[18] = (g[18] % 16 + 1) % 16;
     next
 }
@@ -15,8 +13,11 @@ pub fn generator(g: [u32; 20]) -> [u32; 20] {
 // start index, word 10 the count.
 pub fn tag(t: [u64; 21]) -> [u64; 21] {
     let mut next = t;
-    for i in 0usize..8 {
-        next[i] = (t[(i + 7) % 8] << 32) | (t[i] >> 32);
+    let mut before = t[7];
+    for word in next[..8].iter_mut() {
+        let here = *word;
+        *word = (before << 32) | (here >> 32);
+        before = here;
     }
     next[9] = (t[9] % 16 + 1) % 16;
     next

@@ -1,10 +1,6 @@
 -- `pack` stays inside the text: no more bytes are made than characters were read.
-use Rattle.std.proofs.Common.{◌≡◌, ◌-◌, ◌≤◌, length}
+use Rattle.std.proofs.Common.{◌≡◌, ◌≤◌, length}
 use Rattle.replay.proofs.pack.Given as goal
 
 abbrev pub invariant-loop-i : goal.invariant-loop-i
-invariant-loop-i l =
-    (l.end ≤ length l.initial.text) × (length l.text ≡ length l.initial.text) × (l.out ≤ l.i) × (l.high ≤ 16)
-
-abbrev pub decreases-loop-i : goal.decreases-loop-i
-decreases-loop-i l = l.end - l.i
+invariant-loop-i l = (length l.text ≡ length l.initial.text) × (l.out ≤ l.i)

@@ -7,34 +7,34 @@ use Rattle.frame_files.specs.Decimal.{value_after, value_of}
 use Rattle.frame_files.proofs.Digits.{digit-here, value_grows, value_on}
 use Rattle.frame_files.proofs.decimal.value.Goals as goal
 
-pub overflow_sub-digits : goal.overflow_sub-digits
-overflow_sub-digits c = (digit-here c.args.digits.now c.loop-i.i (omega arith) c.loop-i.invariant.1).0
+pub overflow_sub-c : goal.overflow_sub-c
+overflow_sub-c c = (digit-here c.args.digits.now c.loop-c.c-index (omega arith) c.loop-c.invariant.1).0
 
 pub returns-then-v-gt4294967295 : goal.returns-then-v-gt4294967295
 returns-then-v-gt4294967295 c =
-    let l = c.loop-i in
+    let l = c.loop-c in
     let digits = c.args.digits.now in
-    let on = l.invariant.2 ∙ value_on digits l.i (omega arith) l.v in
-    let grown = value_grows (l.v * 10 + (get_or digits l.i 0 - 48)) (drop (l.i + 1) digits) in
-    let above : 4294967295 < value_of digits = omega (arith, on, grown, c.wide.ensures) in
+    let on = l.invariant.2 ∙ value_on digits l.c-index (omega arith) l.v in
+    let grown = value_grows (l.v * 10 + (get_or digits l.c-index 0 - 48)) (drop (l.c-index + 1) digits) in
+    let above : 4294967295 < value_of digits = omega (arith, on, grown, c.from.ensures) in
     rw (lt-leb (value_of digits) 4294967295 above)
 
-pub loop-i-preserved : goal.loop-i-preserved
-loop-i-preserved c =
-    let l = c.loop-i in
+pub loop-c-preserved : goal.loop-c-preserved
+loop-c-preserved c =
+    let l = c.loop-c in
     let digits = c.args.digits.now in (
       omega arith,
-      (digit-here digits l.i (omega arith) l.invariant.1).2,
+      (digit-here digits l.c-index (omega arith) l.invariant.1).2,
       l.invariant.2
-          ∙ value_on digits l.i (omega arith) l.v
-          ∙ ap (λ (k : ℕ). value_after (l.v * 10 + k) (drop (l.i + 1) digits)) (sym c.wide.ensures),
+          ∙ value_on digits l.c-index (omega arith) l.v
+          ∙ ap (λ (k : ℕ). value_after (l.v * 10 + k) (drop (l.c-index + 1) digits)) (sym c.from.ensures),
     )
 
 pub returns : goal.returns
 unfolding value_after
 returns c =
-    let l = c.loop-i in
+    let l = c.loop-c in
     let digits = c.args.digits.now in
-    let end : length digits ≤ l.i = omega arith in
+    let end : length digits ≤ l.c-index = omega arith in
     let whole : value_of digits ≡ l.v = l.invariant.2 ∙ ap (value_after l.v) (drop_of_length-le digits end) in
     rw (whole, le-leb l.v 4294967295 l.invariant.0)

@@ -1,9 +1,0 @@
--- `after_updates` ends: one update a turn.
-use Rattle.std.proofs.Common.{◌-◌}
-use Rattle.replay.proofs.calls.after_updates.Given as goal
-
-abbrev pub invariant-loop-i : goal.invariant-loop-i
-invariant-loop-i l = Unit {0}
-
-abbrev pub decreases-loop-i : goal.decreases-loop-i
-decreases-loop-i l = l.i-end - l.i

@@ -1,9 +1,0 @@
--- `rest` ends: a word a turn.
-use Rattle.std.proofs.Common.{◌-◌}
-use Rattle.vectors_parts.proofs.text.rest.Given as goal
-
-abbrev pub invariant-loop-i : goal.invariant-loop-i
-invariant-loop-i l = Unit {0}
-
-abbrev pub decreases-loop-i : goal.decreases-loop-i
-decreases-loop-i l = l.n - l.i

@@ -1,9 +1,0 @@
--- `generator` stays inside the array: sixteen turns, a place each.
-use Rattle.std.proofs.Common.{◌-◌}
-use Rattle.vectors_parts.proofs.turned.generator.Given as goal
-
-abbrev pub invariant-loop-i : goal.invariant-loop-i
-invariant-loop-i l = Unit {0}
-
-abbrev pub decreases-loop-i : goal.decreases-loop-i
-decreases-loop-i l = 16 - l.i
