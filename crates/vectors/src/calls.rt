@@ -234,8 +234,8 @@ fn guarded(f: &Fields) -> Told {
 
 // A one-shot.
 fn once(kind: Once, f: &Fields) -> Told {
-    let [a, b, c] = &f.bytes;
-    let (a, buf, b, c) = (a.as_slice(), b, b.as_slice(), c.as_slice());
+    let [first, second, third] = &f.bytes;
+    let (a, b, c) = (first.as_slice(), second.as_slice(), third.as_slice());
     let (count, bearer, direction) = (f.count(), f.bearer(), f.direction());
     let n = f.numbers;
     let bits = n[3] as usize;
@@ -246,22 +246,16 @@ fn once(kind: Once, f: &Fields) -> Told {
             tagged(|tag| eia3_tag_strict(count, bearer, direction, a, b, bits, tag))
         }
         Once::Zuc256Tag => tagged(|tag| zuc256_tag(n[0] as usize, a, b, c, n[1] as usize, tag)),
-        Once::MaskCrate => {
-            masked(
-                buf,
-                |buf, drawn| eea3_mask_crate(count, bearer, direction, a, buf, bits, drawn),
-            )
-        }
-        Once::MaskClean => {
-            masked(
-                buf,
-                |buf, drawn| eea3_mask_clean(count, bearer, direction, a, buf, bits, drawn),
-            )
-        }
-        Once::MaskCrateStrict => masked(buf, |buf, drawn| {
+        Once::MaskCrate => masked(second, |buf, drawn| {
+            eea3_mask_crate(count, bearer, direction, a, buf, bits, drawn)
+        }),
+        Once::MaskClean => masked(second, |buf, drawn| {
+            eea3_mask_clean(count, bearer, direction, a, buf, bits, drawn)
+        }),
+        Once::MaskCrateStrict => masked(second, |buf, drawn| {
             eea3_mask_crate_strict(count, bearer, direction, a, buf, bits, drawn)
         }),
-        Once::MaskCleanStrict => masked(buf, |buf, drawn| {
+        Once::MaskCleanStrict => masked(second, |buf, drawn| {
             eea3_mask_clean_strict(count, bearer, direction, a, buf, bits, drawn)
         }),
         Once::FrameWrite => wrote(f),
@@ -272,13 +266,14 @@ fn once(kind: Once, f: &Fields) -> Told {
 
 // What a line tells, by the first pattern that it fits: nothing, where it fits none or asks for what is not there.
 pub fn call(line: &[u8], arrays: &mut Arrays) -> Option<Told> {
-    let (kind, f) = KINDS.iter().find_map(|(pattern, kind)| Some((
-        *kind,
-        Fields::of(line, pattern.as_bytes())?,
-    )))?;
-    match kind {
-        Kind::Generator(kind) => on_generator(kind, &f, &mut arrays.generator),
-        Kind::Tag(kind) => on_tag(kind, &f, &mut arrays.tag),
-        Kind::Once(kind) => Some(once(kind, &f)),
+    for (pattern, kind) in KINDS.iter() {
+        if let Some(f) = Fields::of(line, pattern.as_bytes()) {
+            return match *kind {
+                Kind::Generator(kind) => on_generator(kind, &f, &mut arrays.generator),
+                Kind::Tag(kind) => on_tag(kind, &f, &mut arrays.tag),
+                Kind::Once(kind) => Some(once(kind, &f)),
+            };
+        }
     }
+    None
 }

@@ -1,10 +1,12 @@
 // A line's numbers and bytes, where a pattern says that they stand.
+ghost use Rattle.std.specs.Prelude.{◌≡◌, ◌%◌, ◌^◌};
+
 use crate::digit;
 use crate::pieces::words;
 use crate::text::Text;
 
 #[derive(Clone, Copy, PartialEq, Eq)]
-pub enum Base {
+pub(crate) enum Base {
     Ten,
     Sixteen,
 }
@@ -19,12 +21,15 @@ pub struct Fields {
     pub bytes: [Bytes; 3],
 }
 
-pub fn low_word(n: u64) -> u32 {
+// A count or a word of an array, which a line may give too great.
+pub fn low_word(n: u64) -> u32
+    ensures { result ≡ n % 2 ^ 32 }
+{
     (n % 0x1_0000_0000) as u32
 }
 
 // The number that a word of digits is: none of a word without them, or with more than so many. It wraps past 64 bits.
-pub fn number(word: &[u8], base: Base, most: usize) -> Option<u64> {
+pub(crate) fn number(word: &[u8], base: Base, most: usize) -> Option<u64> {
     if word.is_empty() || most < word.len() {
         return None;
     }

@@ -1,10 +1,11 @@
 // Bytes cut at a character: a text into lines, a line into words. They need not be UTF-8, so std's methods of text do not serve.
-ghost use Rattle.std.specs.Prelude.{◌+◌, ◌<◌, length};
+ghost use Rattle.std.specs.Prelude.{◌+◌, ◌<◌, ◌≤◌, length};
 ghost use Rattle.std.specs.Iterator.{at_most};
 
 // What stands before the first of a character, or all; and what stands behind it.
 pub fn cut(s: &[u8], c: u8) -> (&[u8], &[u8])
-    ensures { 0 < length s.now → length result.1.now < length s.now }
+    ensures front { length result.0.now ≤ length s.now }
+    ensures behind { 0 < length s.now → length result.1.now < length s.now }
 {
     match s.iter().position(|b| *b == c) {
         Some(i) => (&s[..i], &s[i + 1..]),
