@@ -3,12 +3,12 @@ ghost use Rattle.std.specs.Prelude.{◌&&◌, ◌≡◌, ◌+◌, ◌≤◌, IfO
 ghost use Rattle.frame_files.specs.Stream.{IsPrefixLen, frame_end};
 ghost use Rattle.standard.specs.Refusals.{key_test};
 
+use crate::input::read_full;
 use crate::told;
 use std::env::{Env, FillError};
 use std::fs::Files;
 use std::io::{ErrorKind, Read, Write};
 use std::{fs, io, str};
-use vectors_parts::input::read_full;
 
 // Opens the file that a command names. (std opens no name that is not UTF-8.)
 fn open<F: Files>(files: &F, name: &[u8]) -> io::Result<F::File> {

@@ -7,9 +7,9 @@ mod record;
 
 ghost use Rattle.std.specs.Prelude.{◌+◌, ◌^◌, ◌<◌, ◌≤◌, IfSome, length};
 
+use frame_files::input::read_full;
 use std::io;
 use vectors_parts::digit;
-use vectors_parts::input::read_full;
 
 // Hexadecimal text packed into bytes in place, every other character skipped: how many bytes. (By index: what is read and what is written is
 // one buffer.)

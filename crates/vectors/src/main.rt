@@ -9,8 +9,8 @@ mod kinds;
 ghost use Rattle.std.specs.Prelude.{◌^◌, ◌<◌};
 
 use calls::{Arrays, Told, call};
+use frame_files::input::read_full;
 use std::io;
-use vectors_parts::input::read_full;
 use vectors_parts::pieces::{cut, lines};
 use vectors_parts::table::{Asks, Table};
 

@@ -1,11 +1,9 @@
-// Digits, lines cut into words, text of fixed room that tells what calls told; arrays turned, input read, and a table of rows: for the
-// programs.
+// Digits, lines cut into words, text of fixed room that tells what calls told; arrays turned, and a table of rows: for the programs.
 #![tactic(auto)]
 
 ghost use Rattle.std.specs.Prelude.{◌<◌, IfSome};
 
 pub mod fields;
-pub mod input;
 pub mod pieces;
 pub mod table;
 pub mod text;
