@@ -1,4 +1,5 @@
 -- Laws of numbers whose bits are grouped anew: entry by entry, and back again; by the bits of windows.
+use borrow.Author.Count.{below_none}
 use lib.Arith.{digits_div, digits_lt, digits_mod}
 use lib.ListN.{length}
 use mathlib.Core.List.{List}
@@ -78,3 +79,10 @@ regrouped-back m n c d mpos npos same run full fits = sym (is-listed (λ j. wind
         window-ext G (bit_at m f) (k * m) (k * m) m
         (λ j l. bits-same m n c npos f (k * m + j) (subst (λ (x : ℕ). k * m + j < x) (sym same) (digits_lt h l)))
         ∙ window-cell m mpos f k (fits k h)
+
+-- the first i entries of a list are those of a function, and where it begins (docs/PORT.md names it)
+abbrev pub Filled : (ℕ → ℕ) → ℕ → ℕ → List ℕ → Type 0
+Filled f n i xs = (i ≤ n) × (length xs ≡ n) × ((k : ℕ) → k < i → xs ⟨ k ⟩ ≡ f k)
+
+pub none_filled : (f : ℕ → ℕ) (n : ℕ) (xs : List ℕ) → length xs ≡ n → Filled f n 0 xs
+none_filled f n xs e = (omega arith, e, below_none (λ k. xs ⟨ k ⟩ ≡ f k))

@@ -3,15 +3,16 @@ use mathlib.Core.Path.{◌≡◌, refl, subst, sym}
 use mathlib.Core.Bool.{Bool, true, false}
 use mathlib.Core.List.{List, [], ◌∷◌}
 use Prim.Native.Nat.{ℕ}
+use native.Mathlib.Omega.{arith}
 use lib.Dec.{eqb, lit<}
 use Rattle.standard.specs.Generator.{State}
 use Rattle.standard.specs.Loading.{d-tag₁₂₈, d-tag₃₂, d-tag₆₄, load₁₂₈, load₂₅₆, row_of}
 use Rattle.std.specs.Prelude.{if◌then◌else◌}
-use Rattle.standard.specs.Refusals.{Test, iv_test, key_test, tested, width_test}
+use Rattle.standard.specs.Refusals.{Test, accepted, bad_field, bad_iv, bad_key, bad_width, iv_test, key_test, tested, width_test}
 use Rattle.standard.proofs.Cells.{Cells}
 use Rattle.standard.proofs.Generator.{sound-started}
 use Rattle.standard.proofs.Held.{Ready}
-use Rattle.standard.proofs.Tested.{Numbered, accepted-is, accepted-passed}
+use Rattle.standard.proofs.Tested.{Numbered, accepted-is, accepted-passed, never-told}
 use Rattle.keystream.specs.Starts.{StartOutcome, accepted_start, refused_start, start_tag₂₅₆, start₁₂₈}
 use Rattle.zuc_loading.specs.InnerRows.{Row}
 use Rattle.zuc_loading.proofs.Loaded.{Bytes, cells-128, cells-256}
@@ -53,3 +54,11 @@ module _ (w : ℕ) (k iv : List ℕ) where
       (accepted-passed (λ (o : StartOutcome). o.number) refused_start (λ n. refl) (accepted_start (load₂₅₆ (row_of w) k iv)) tests-256
       (lit< tt, (lit< tt, (lit< tt, tt))) e
       ).0
+
+-- ZUC-256 is never refused for a field
+pub no-field-256 : (w : ℕ) (k iv : List ℕ) → (start_tag₂₅₆ w k iv).number ≡ bad_field → ⊥
+unfolding start_tag₂₅₆
+no-field-256 w k iv =
+    never-told (λ (o : StartOutcome). o.number) refused_start (λ n. refl) (accepted_start (load₂₅₆ (row_of w) k iv)) bad_field (λ (e : accepted ≡ bad_field). omega arith)
+    (tests-256 w k iv)
+    (λ (e : bad_width ≡ bad_field). omega arith, (λ (e : bad_key ≡ bad_field). omega arith, (λ (e : bad_iv ≡ bad_field). omega arith, tt)))
