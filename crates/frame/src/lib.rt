@@ -12,7 +12,6 @@ ghost use Rattle.standard.specs.Refusals.{accepted, tested};
 use refusals::Refusal;
 use words::{fields_fit, keep_high, word_of};
 
-
 // What a frame carries beside its body.
 #[derive(Clone, Copy, Debug, PartialEq, Eq)]
 pub struct FrameFields {
