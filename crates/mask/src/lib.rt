@@ -18,7 +18,7 @@ use words::keep_high;
 use zuc::{Generator, Loaded, Zuc};
 use zuc_bulk::startup::begin;
 use zuc_bulk::{index_after, lay_state, state_of};
-use zuc_turn::Halves;
+use zuc_turn::{Halves, Run};
 
 pub mod eea3;
 
@@ -75,31 +75,23 @@ fn reach_of(clean: bool, bits: usize, n: usize) -> Reach
 }
 
 // Both modes' mask, on a run that stands at 0.
-fn mask_standing(
-    run: &mut [u32],
-    pairs: &mut [u32],
-    start: Halves,
-    buf: &mut [u8],
-    bits: usize,
-    reach: Reach,
-) -> Halves
-    requires laid { Laid run.old pairs.old 0 }
+fn mask_standing(run: &mut Run, start: Halves, buf: &mut [u8], bits: usize, reach: Reach) -> Halves
+    requires laid { Laid run.old.cells run.old.pairs 0 }
     requires halves { Low start }
     requires enough { Enough (length buf.old) bits reach }
-    ensures state { Standing run.new pairs.new 0 result (after reach.drawn (state_at run.old 0 start)) }
-    ensures bytes { buf.new ≡ mask_clean (word_at (state_at run.old 0 start)) (end_of bits reach) buf.old }
+    ensures state { Standing run.new.cells run.new.pairs 0 result (after reach.drawn (state_at run.old.cells 0 start)) }
+    ensures bytes { buf.new ≡ mask_clean (word_at (state_at run.old.cells 0 start)) (end_of bits reach) buf.old }
 {
     let to = reach.to;
-    let h = mask_on(run, pairs, start, &mut buf[..to], reach.drawn);
+    let h = mask_on(run, start, &mut buf[..to], reach.drawn);
     keep_bits(buf, bits / 8, reach.kept);
     h
 }
 
 // A run that stands at 0 for a state, or, where the cells are fresh from a load, for what start-up makes of them.
-fn lay_on(fresh: bool, z: Zuc, run: &mut [u32], pairs: &mut [u32]) -> Halves
-    requires room { (length run.old ≡ 80) × (length pairs.old ≡ 80) }
-    requires in_place { InPlace fresh z }
-    ensures { Standing run.new pairs.new 0 result (drawn_from fresh z) }
+fn lay_on(fresh: bool, z: Zuc, run: &mut Run) -> Halves
+    requires { InPlace fresh z }
+    ensures { Standing run.new.cells run.new.pairs 0 result (drawn_from fresh z) }
 {
     if fresh {
         let s = z.s;
@@ -108,9 +100,9 @@ fn lay_on(fresh: bool, z: Zuc, run: &mut [u32], pairs: &mut [u32]) -> Halves
             r1: z.r1,
             r2: z.r2,
         };
-        return begin(loaded, run, pairs);
+        return begin(loaded, run);
     }
-    lay_state(z, run, pairs)
+    lay_state(z, &mut run.cells, &mut run.pairs)
 }
 
 // The mask by the same, and the state after a mask by a state; after any other nobody asks for it. Both forms of a call come here, so that
@@ -121,14 +113,13 @@ fn mask_from(fresh: bool, z: Zuc, buf: &mut [u8], bits: usize, reach: Reach) -> 
     ensures state { fresh ≡ false → held_of result ≡ moved reach.drawn (held_of z) }
     ensures bytes { buf.new ≡ mask_clean (word_at (drawn_from fresh z)) (end_of bits reach) buf.old }
 {
-    let mut run = [0u32; 80];
-    let mut pairs = [0u32; 80];
-    let laid = lay_on(fresh, z, &mut run, &mut pairs);
-    let h = mask_standing(&mut run, &mut pairs, laid, buf, bits, reach);
+    let mut run = Run::new();
+    let laid = lay_on(fresh, z, &mut run);
+    let h = mask_standing(&mut run, laid, buf, bits, reach);
     if fresh {
         return z;
     }
-    state_of(&run, h, index_after(z.start, reach.drawn))
+    state_of(&run.cells, h, index_after(z.start, reach.drawn))
 }
 
 // Both modes: the tests, and then the mask. The words drawn, or BadState, BadBits, Spent, in this order: then state and buffer stay as they came.

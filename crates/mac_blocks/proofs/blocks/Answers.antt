@@ -48,7 +48,7 @@ feed-o-requires c =
 
 pub loop-i-smaller : goal.loop-i-smaller
 loop-i-smaller c =
-    omega (arith, cnt-lt (stored_at c.args.run.now c.args.start) c.requires.opened.holds, c.portion.ensures.some c.loop-i-test.true, c.portion.ensures.within)
+    omega (arith, cnt-lt (stored_at c.args.run.now.cells c.args.start) c.requires.opened.holds, c.portion.ensures.some c.loop-i-test.true, c.portion.ensures.within)
 
 pub loop-i-preserved : goal.loop-i-preserved
 loop-i-preserved c =
@@ -69,7 +69,7 @@ loop-i-preserved c =
         stored =
             fed.0.stored
             ∙ at_packed (λ x y. packed x (updated (x * 8) y part)) c.loop-i.invariant.3.stored (good-updated (take (c.loop-i.i - a.from) (drop a.from m)) c.requires.opened.holds.good)
-            ∙ ap (packed w) (updated-from (w * 8) (tagging_of (stored_at a.run.now a.start)) m a.from c.loop-i.i e from_le (omega arith));
+            ∙ ap (packed w) (updated-from (w * 8) (tagging_of (stored_at a.run.now.cells a.start)) m a.from c.loop-i.i e from_le (omega arith));
       },
     )
 

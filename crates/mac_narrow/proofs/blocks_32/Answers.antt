@@ -49,7 +49,7 @@ returns c =
     let a = c.args in
     let pre = c.requires in
     let width : a.start.width ≡ 4 = pre.width_is in
-    let s = stored_at a.run.now a.start in
+    let s = stored_at a.run.now.cells a.start in
     let part : List ℕ = take (l.i - a.from) (drop a.from a.message.now) in (
       record { laid = l.invariant.2.laid; low = l.invariant.2.low; state = refl },
       record {

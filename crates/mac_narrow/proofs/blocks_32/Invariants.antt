@@ -10,7 +10,7 @@ abbrev pub invariant-loop-i : goal.invariant-loop-i
 invariant-loop-i l =
     (l.i ≤ length l.message)
     × ((n : ℕ) × (l.i ≡ l.from + n * 4))
-    × Tagged l.run l.pairs l.s (updated 32 (tagging_at l.initial.run l.initial.s) (take (l.i - l.from) (drop l.from l.message)))
+    × Tagged l.run.cells l.run.pairs l.s (updated 32 (tagging_at l.initial.run.cells l.initial.s) (take (l.i - l.from) (drop l.from l.message)))
 
 abbrev pub decreases-loop-i : goal.decreases-loop-i
 decreases-loop-i l = length l.message - l.i

@@ -34,23 +34,11 @@ loop-buf-preserved c =
           ∙ l.invariant.4,
     )
 
-pub shape_of-run-then-i-drawn : goal.shape_of-run-then-i-drawn
-shape_of-run-then-i-drawn c = c.loop-buf.invariant.3.laid.long ∙ sym c.requires.laid.long
-
-pub shape_of-pairs-then-i-drawn : goal.shape_of-pairs-then-i-drawn
-shape_of-pairs-then-i-drawn c = c.loop-buf.invariant.3.laid.wide ∙ sym c.requires.laid.wide
-
 pub returns-then-i-drawn : goal.returns-then-i-drawn
 returns-then-i-drawn c =
     let l = c.loop-buf in
-    let σ : State = state_at c.args.run.now 0 c.args.start in
-    record { state = subst (λ (n : ℕ). Standing l.run l.pairs 0 l.h (after n σ)) c.if-i-drawn.true l.invariant.3; bytes = sym (from_end _ l.i l.buf (omega (arith, c.requires.buf_fits.0))) ∙ l.invariant.4 ∙ from-start _ _ }
-
-pub shape_of-run : goal.shape_of-run
-shape_of-run c = (c.rest.ensures _ _ c.turn-last.ensures.standing).laid.long ∙ sym c.requires.laid.long
-
-pub shape_of-pairs : goal.shape_of-pairs
-shape_of-pairs c = (c.rest.ensures _ _ c.turn-last.ensures.standing).laid.wide ∙ sym c.requires.laid.wide
+    let σ : State = state_at c.args.run.now.cells 0 c.args.start in
+    record { state = subst (λ (n : ℕ). Standing l.run.cells l.run.pairs 0 l.h (after n σ)) c.if-i-drawn.true l.invariant.3; bytes = sym (from_end _ l.i l.buf (omega (arith, c.requires.buf_fits.0))) ∙ l.invariant.4 ∙ from-start _ _ }
 
 -- past the last word: the state that the run began with, and the one that it stands for once it is rested
 pub returns : goal.returns
@@ -59,7 +47,7 @@ returns c =
     let l = c.loop-buf in
     let i : ℕ = l.i in
     let n : ℕ = length l.buf in
-    let begun : State = state_at c.args.run.now 0 c.args.start in
+    let begun : State = state_at c.args.run.now.cells 0 c.args.start in
     let words = c.requires.buf_fits in
     let full : length c.xor_rest.new.part ≡ n - i = search rules in
     let drawn = c.turn-last.ensures.word ∙ ap word l.invariant.3.state ∙ word_after (i / 4) begun in

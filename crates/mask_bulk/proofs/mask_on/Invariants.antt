@@ -13,8 +13,8 @@ invariant-loop-buf l =
     (l.i ≤ length l.initial.buf)
     × (l.i % 4 ≡ 0)
     × (length l.buf ≡ length l.initial.buf)
-    × Standing l.run l.pairs 0 l.h (after (l.i / 4) (state_at l.initial.run 0 l.initial.h))
-    × (done_from (masked (word_at (state_at l.initial.run 0 l.initial.h))) l.i l.buf ≡ done_from (masked (word_at (state_at l.initial.run 0 l.initial.h))) 0 l.initial.buf)
+    × Standing l.run.cells l.run.pairs 0 l.h (after (l.i / 4) (state_at l.initial.run.cells 0 l.initial.h))
+    × (done_from (masked (word_at (state_at l.initial.run.cells 0 l.initial.h))) l.i l.buf ≡ done_from (masked (word_at (state_at l.initial.run.cells 0 l.initial.h))) 0 l.initial.buf)
 
 abbrev pub decreases-loop-buf : goal.decreases-loop-buf
 decreases-loop-buf l = length l.initial.buf - l.i
