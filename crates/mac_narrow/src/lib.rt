@@ -10,7 +10,7 @@ ghost use Rattle.mac_narrow.specs.InnerNarrow.{Tagged, tagging_at};
 
 use mac_registers::sums::{joined, sum_32};
 use mac_registers::{Moved, Open};
-use zuc_bulk::{index_after, rest, smaller};
+use zuc_bulk::{index_after, rest};
 use zuc_turn::{Halves, Run};
 
 // What the loop carries beside the run: the registers, the key pair and the tag; and the index at which the cells will start.
@@ -50,6 +50,21 @@ fn words_32(run: &mut Run, start: Narrow, part: &[u8]) -> Narrow
     }
 }
 
+// Blocks of four bytes, as many as there are.
+fn parts_32(run: &mut Run, start: Narrow, part: &[u8]) -> Narrow
+    requires laid { Laid run.old.cells run.old.pairs 0 }
+    requires halves { Low start.h × (start.start < 16) }
+    requires whole { length part.now % 4 ≡ 0 }
+    ensures { Tagged run.new.cells run.new.pairs result (updated 32 (tagging_at run.old.cells start) part.now) }
+{
+    let mut s = start;
+    for i in (0..part.len()).step_by(256) {
+        let e = i + (part.len() - i).min(256);
+        s = words_32(run, s, &part[i..e]);
+    }
+    s
+}
+
 // Whole blocks, as many as there are, where nothing waits.
 pub fn blocks_32(run: &mut Run, start: Open, message: &[u8], from: usize) -> Moved
     requires opened { Opened run.old.cells run.old.pairs start }
@@ -60,18 +75,14 @@ pub fn blocks_32(run: &mut Run, start: Open, message: &[u8], from: usize) -> Mov
     let h = start.h;
     let key = start.key;
     let tag = start.tag;
-    let mut s = Narrow {
+    let first = Narrow {
         h,
         key: key[0],
         tag: tag[0] as u32,
         start: start.start,
     };
-    let mut i = from;
-    while 4 <= message.len() - i {
-        let e = i + smaller(256, (message.len() - i) / 4 * 4);
-        s = words_32(run, s, &message[i..e]);
-        i = e;
-    }
+    let at = from + (message.len() - from) / 4 * 4;
+    let s = parts_32(run, first, &message[from..at]);
     let last = s.h;
     let next = Open {
         h: last,
@@ -82,5 +93,5 @@ pub fn blocks_32(run: &mut Run, start: Open, message: &[u8], from: usize) -> Mov
         cnt: 0,
         width: 4,
     };
-    Moved { o: next, at: i }
+    Moved { o: next, at }
 }
