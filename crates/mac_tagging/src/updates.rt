@@ -63,9 +63,7 @@ pub fn behind(waiting: [u8; 16], cnt: usize, bytes: &[u8]) -> [u8; 16]
     ensures { result ≡ paste waiting cnt bytes.now (length bytes.now) }
 {
     let mut rem = waiting;
-    for i in 0..bytes.len() {
-        rem[cnt + i] = bytes[i];
-    }
+    rem[cnt..cnt + bytes.len()].copy_from_slice(bytes);
     rem
 }
 

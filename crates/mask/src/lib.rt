@@ -27,11 +27,7 @@ fn zero_from(buf: &mut [u8], from: usize)
     requires { from ≤ length buf.old }
     ensures { buf.new ≡ each_from (zeroed from) 0 buf.old }
 {
-    let mut i = from;
-    while i < buf.len() {
-        buf[i] = 0;
-        i += 1;
-    }
+    buf[from..].fill(0);
 }
 
 // Keeps the bytes before byte q and its k high bits, and zeroes what follows.
