@@ -26,8 +26,7 @@ fn feed_all(width: usize, key: [u64; 4], tag: [u64; 2], words: &[u32], part: &[u
     ensures { fed_by width key tag words.now part.now result.key result.tag }
 {
     let mut fed = Fed { key, tag };
-    let mut i: usize = 0;
-    while i < part.len() {
+    for i in (0..part.len()).step_by(width) {
         let e = i + width;
         let k = fed.key;
         let t = fed.tag;
@@ -38,7 +37,6 @@ fn feed_all(width: usize, key: [u64; 4], tag: [u64; 2], words: &[u32], part: &[u
             key: moved,
             tag: sum,
         };
-        i = e;
     }
     fed
 }
