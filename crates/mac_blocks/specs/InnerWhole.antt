@@ -17,11 +17,3 @@ abbrev pub fed_by : ℕ → List ℕ → List ℕ → List ℕ → List ℕ → 
 fed_by width key tag words part key' tag' =
     (σ : Held) → Holds (empty_of width σ key tag) → take (length part / 4) words ≡ listed (word_at σ.meaning) 0 (length part / 4)
     → empty_of width (moved (length part / 4) σ) key' tag' ≡ packed width (updated (width * 8) (tagging_of (empty_of width σ key tag)) part)
-
--- bytes of whole blocks, some where a block is left
-pub record Portion (width left r : ℕ) : Type 0 where
-  pub most : r ≤ 256
-  pub within : r ≤ left
-  pub some : width ≤ left → width ≤ r
-  pub count : ℕ
-  pub whole : r ≡ count * width

@@ -7,10 +7,11 @@ ghost use Rattle.mac_registers.specs.Stored.{packed, tagging_of};
 ghost use Rattle.mac_registers.specs.Inner.{Width};
 ghost use Rattle.mac_registers.specs.InnerOpen.{AtRest, Opened, Stands, stored_at};
 ghost use Rattle.mac_registers.specs.Tagging.{updated};
-ghost use Rattle.mac_blocks.specs.InnerWhole.{Portion, fed_by};
+ghost use Rattle.mac_blocks.specs.InnerWhole.{fed_by};
 
 use mac_registers::{Moved, Open, fresh_at, key_on, tag_with};
 use zuc_bulk::{index_after, words_on};
+use zuc_turn::Run;
 
 #[derive(Clone, Copy)]
 pub struct Fed {
@@ -25,8 +26,7 @@ fn feed_all(width: usize, key: [u64; 4], tag: [u64; 2], words: &[u32], part: &[u
     ensures { fed_by width key tag words.now part.now result.key result.tag }
 {
     let mut fed = Fed { key, tag };
-    let mut i: usize = 0;
-    while i < part.len() {
+    for i in (0..part.len()).step_by(width) {
         let e = i + width;
         let k = fed.key;
         let t = fed.tag;
@@ -37,16 +37,15 @@ fn feed_all(width: usize, key: [u64; 4], tag: [u64; 2], words: &[u32], part: &[u
             key: moved,
             tag: sum,
         };
-        i = e;
     }
     fed
 }
 
 // Whole blocks, at most 256 bytes, where nothing waits.
-fn feed(run: &mut [u32], pairs: &mut [u32], o: Open, part: &[u8]) -> Open
-    requires opened { Opened run.old pairs.old o }
+fn feed(run: &mut Run, o: Open, part: &[u8]) -> Open
+    requires opened { Opened run.old.cells run.old.pairs o }
     requires blocks { (o.cnt ≡ 0) × (length part.now ≤ 256) × ((n : ℕ) × (length part.now ≡ n * o.width)) }
-    ensures { Stands run.new pairs.new result (packed o.width (updated (o.width * 8) (tagging_of (stored_at run.old o)) part.now)) × (result.cnt ≡ 0) }
+    ensures { Stands run.new.cells run.new.pairs result (packed o.width (updated (o.width * 8) (tagging_of (stored_at run.old.cells o)) part.now)) × (result.cnt ≡ 0) }
 {
     let width = o.width;
     let key = o.key;
@@ -54,7 +53,7 @@ fn feed(run: &mut [u32], pairs: &mut [u32], o: Open, part: &[u8]) -> Open
     let h = o.h;
     let n = part.len() / 4;
     let mut words = [0u32; 64];
-    let next = words_on(run, pairs, h, &mut words[..n]);
+    let next = words_on(run, h, &mut words[..n]);
     let fed = feed_all(width, key, tag, &words, part);
     let moved = fed.key;
     let sum = fed.tag;
@@ -69,30 +68,17 @@ fn feed(run: &mut [u32], pairs: &mut [u32], o: Open, part: &[u8]) -> Open
     }
 }
 
-// The bytes of the next blocks, at most 256.
-fn portion(width: usize, left: usize) -> usize
-    requires { Width width }
-    ensures { Portion width left result }
-{
-    if 256 <= left {
-        return 256;
-    }
-    left - left % width
-}
-
 // Whole blocks, as many as there are, where nothing waits.
-pub fn blocks(run: &mut [u32], pairs: &mut [u32], start: Open, message: &[u8], from: usize) -> Moved
-    requires opened { Opened run.old pairs.old start }
+pub fn blocks(run: &mut Run, start: Open, message: &[u8], from: usize) -> Moved
+    requires opened { Opened run.old.cells run.old.pairs start }
     requires aligned { (start.cnt ≡ 0) × (from ≤ length message.now) }
-    ensures { AtRest run.new pairs.new result.o.h × Blocks (stored_at run.old start) message.now from (stored_at run.new result.o) result.at }
+    ensures { AtRest run.new.cells run.new.pairs result.o.h × Blocks (stored_at run.old.cells start) message.now from (stored_at run.new.cells result.o) result.at }
 {
-    let width = start.width;
+    let at = message.len() - (message.len() - from) % start.width;
     let mut o = start;
-    let mut i = from;
-    while width <= message.len() - i {
-        let e = i + portion(width, message.len() - i);
-        o = feed(run, pairs, o, &message[i..e]);
-        i = e;
+    for i in (from..at).step_by(256) {
+        let e = i + (at - i).min(256);
+        o = feed(run, o, &message[i..e]);
     }
-    Moved { o, at: i }
+    Moved { o, at }
 }

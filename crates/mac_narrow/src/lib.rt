@@ -10,8 +10,8 @@ ghost use Rattle.mac_narrow.specs.InnerNarrow.{Tagged, tagging_at};
 
 use mac_registers::sums::{joined, sum_32};
 use mac_registers::{Moved, Open};
-use zuc_bulk::{index_after, rest, smaller};
-use zuc_turn::{Halves, turn};
+use zuc_bulk::{index_after, rest};
+use zuc_turn::{Halves, Run};
 
 // What the loop carries beside the run: the registers, the key pair and the tag; and the index at which the cells will start.
 #[derive(Clone, Copy)]
@@ -23,11 +23,11 @@ pub struct Narrow {
 }
 
 // At most 64 blocks of four bytes. The cells and pairs are at the front, before and after.
-fn words_32(run: &mut [u32], pairs: &mut [u32], start: Narrow, part: &[u8]) -> Narrow
-    requires laid { Laid run.old pairs.old 0 }
+fn words_32(run: &mut Run, start: Narrow, part: &[u8]) -> Narrow
+    requires laid { Laid run.old.cells run.old.pairs 0 }
     requires halves { Low start.h × (start.start < 16) }
     requires part_fits { (length part.now ≤ 256) × (length part.now % 4 ≡ 0) }
-    ensures { Tagged run.new pairs.new result (updated 32 (tagging_at run.old start) part.now) }
+    ensures { Tagged run.new.cells run.new.pairs result (updated 32 (tagging_at run.old.cells start) part.now) }
 {
     let mut h = start.h;
     let mut key = start.key;
@@ -37,11 +37,11 @@ fn words_32(run: &mut [u32], pairs: &mut [u32], start: Narrow, part: &[u8]) -> N
         let b = 4 * j;
         let e = b + 4;
         tag = tag ^ sum_32(key, &part[b..e], 0);
-        let t = turn(run, pairs, j, h);
+        let t = run.turn(j, h);
         key = joined((key % 0x1_0000_0000) as u32, t.word);
         h = t.h;
     }
-    rest(run, pairs, n);
+    rest(run, n);
     Narrow {
         h,
         key,
@@ -50,34 +50,39 @@ fn words_32(run: &mut [u32], pairs: &mut [u32], start: Narrow, part: &[u8]) -> N
     }
 }
 
+// Blocks of four bytes, as many as there are.
+fn parts_32(run: &mut Run, start: Narrow, part: &[u8]) -> Narrow
+    requires laid { Laid run.old.cells run.old.pairs 0 }
+    requires halves { Low start.h × (start.start < 16) }
+    requires whole { length part.now % 4 ≡ 0 }
+    ensures { Tagged run.new.cells run.new.pairs result (updated 32 (tagging_at run.old.cells start) part.now) }
+{
+    let mut s = start;
+    for i in (0..part.len()).step_by(256) {
+        let e = i + (part.len() - i).min(256);
+        s = words_32(run, s, &part[i..e]);
+    }
+    s
+}
+
 // Whole blocks, as many as there are, where nothing waits.
-pub fn blocks_32(
-    run: &mut [u32],
-    pairs: &mut [u32],
-    start: Open,
-    message: &[u8],
-    from: usize,
-) -> Moved
-    requires opened { Opened run.old pairs.old start }
+pub fn blocks_32(run: &mut Run, start: Open, message: &[u8], from: usize) -> Moved
+    requires opened { Opened run.old.cells run.old.pairs start }
     requires aligned { (start.cnt ≡ 0) × (from ≤ length message.now) }
     requires width_is { start.width ≡ 4 }
-    ensures { AtRest run.new pairs.new result.o.h × Blocks (stored_at run.old start) message.now from (stored_at run.new result.o) result.at }
+    ensures { AtRest run.new.cells run.new.pairs result.o.h × Blocks (stored_at run.old.cells start) message.now from (stored_at run.new.cells result.o) result.at }
 {
     let h = start.h;
     let key = start.key;
     let tag = start.tag;
-    let mut s = Narrow {
+    let first = Narrow {
         h,
         key: key[0],
         tag: tag[0] as u32,
         start: start.start,
     };
-    let mut i = from;
-    while 4 <= message.len() - i {
-        let e = i + smaller(256, (message.len() - i) / 4 * 4);
-        s = words_32(run, pairs, s, &message[i..e]);
-        i = e;
-    }
+    let at = from + (message.len() - from) / 4 * 4;
+    let s = parts_32(run, first, &message[from..at]);
     let last = s.h;
     let next = Open {
         h: last,
@@ -88,5 +93,5 @@ pub fn blocks_32(
         cnt: 0,
         width: 4,
     };
-    Moved { o: next, at: i }
+    Moved { o: next, at }
 }

@@ -14,16 +14,16 @@ use super::updates::{begin_128, begin_256, behind};
 use mac_registers::{TagState, lay, taken};
 use zuc::{Loaded, Zuc};
 use zuc_bulk::lay_state;
+use zuc_turn::Run;
 
 pub fn start_128(g: Zuc) -> TagState
     requires { Ready (held_of g) }
     ensures { stored_of result ≡ packed 4 (begun-EIA3 (held_of g)) }
 {
-    let mut run = [0u32; 80];
-    let mut pairs = [0u32; 80];
-    let h = lay_state(g, &mut run, &mut pairs);
-    let o = begin_128(&mut run, &mut pairs, h, g.start);
-    taken(&run, o)
+    let mut run = Run::new();
+    let h = lay_state(g, &mut run.cells, &mut run.pairs);
+    let o = begin_128(&mut run, h, g.start);
+    taken(&run.cells, o)
 }
 
 pub fn start_256(width: usize, g: Zuc) -> TagState
@@ -31,11 +31,10 @@ pub fn start_256(width: usize, g: Zuc) -> TagState
     requires ready { Ready (held_of g) }
     ensures { stored_of result ≡ packed width (begun-ZUC256 (width * 8) (held_of g)) }
 {
-    let mut run = [0u32; 80];
-    let mut pairs = [0u32; 80];
-    let h = lay_state(g, &mut run, &mut pairs);
-    let o = begin_256(&mut run, &mut pairs, h, g.start, width);
-    taken(&run, o)
+    let mut run = Run::new();
+    let h = lay_state(g, &mut run.cells, &mut run.pairs);
+    let o = begin_256(&mut run, h, g.start, width);
+    taken(&run.cells, o)
 }
 
 // An update whose bytes all wait: no cell is laid.
@@ -67,11 +66,10 @@ pub fn update(s: TagState, message: &[u8]) -> TagState
     if message.len() < s.width - s.cnt {
         return put_by(s, message);
     }
-    let mut run = [0u32; 80];
-    let mut pairs = [0u32; 80];
-    let o = lay(s, &mut run, &mut pairs);
-    let e = super::updates::update(&mut run, &mut pairs, o, message);
-    taken(&run, e)
+    let mut run = Run::new();
+    let o = lay(s, &mut run.cells, &mut run.pairs);
+    let e = super::updates::update(&mut run, o, message);
+    taken(&run.cells, e)
 }
 
 pub fn finish_128(s: TagState, tail: &[u8], l: usize) -> u32
@@ -80,10 +78,9 @@ pub fn finish_128(s: TagState, tail: &[u8], l: usize) -> u32
     requires bits_fit { l ≤ length tail.now * 8 }
     ensures { result ≡ closed-EIA3 (tagging_of (stored_of s)) tail.now l }
 {
-    let mut run = [0u32; 80];
-    let mut pairs = [0u32; 80];
-    let o = lay(s, &mut run, &mut pairs);
-    close_128(&mut run, &mut pairs, o, tail, l)
+    let mut run = Run::new();
+    let o = lay(s, &mut run.cells, &mut run.pairs);
+    close_128(&mut run, o, tail, l)
 }
 
 pub fn finish_256(s: TagState, tail: &[u8], l: usize) -> [u64; 2]
@@ -91,10 +88,9 @@ pub fn finish_256(s: TagState, tail: &[u8], l: usize) -> [u64; 2]
     requires bits_fit { l ≤ length tail.now * 8 }
     ensures { result ≡ tag_words s.width (closed-ZUC256 (s.width * 8) (tagging_of (stored_of s)) tail.now l) }
 {
-    let mut run = [0u32; 80];
-    let mut pairs = [0u32; 80];
-    let o = lay(s, &mut run, &mut pairs);
-    close_256(&mut run, &mut pairs, o, tail, l)
+    let mut run = Run::new();
+    let o = lay(s, &mut run.cells, &mut run.pairs);
+    close_256(&mut run, o, tail, l)
 }
 
 // A whole message, from loaded cells on: no state is written between, and nothing is taken back.
@@ -103,11 +99,10 @@ pub fn once_128(loaded: Loaded, message: &[u8], l: usize) -> u32
     requires bits_fit { l ≤ length message.now * 8 }
     ensures { result ≡ closed-EIA3 (begun-EIA3 (from_zero (started (loaded_of loaded)))) message.now l }
 {
-    let mut run = [0u32; 80];
-    let mut pairs = [0u32; 80];
-    let h = zuc_bulk::startup::begin(loaded, &mut run, &mut pairs);
-    let o = begin_128(&mut run, &mut pairs, h, 0);
-    close_128(&mut run, &mut pairs, o, message, l)
+    let mut run = Run::new();
+    let h = zuc_bulk::startup::begin(loaded, &mut run);
+    let o = begin_128(&mut run, h, 0);
+    close_128(&mut run, o, message, l)
 }
 
 // The same from a started state.
@@ -117,9 +112,8 @@ pub fn once_256(width: usize, g: Zuc, message: &[u8], l: usize) -> [u64; 2]
     requires bits_fit { l ≤ length message.now * 8 }
     ensures { result ≡ tag_words width (closed-ZUC256 (width * 8) (begun-ZUC256 (width * 8) (held_of g)) message.now l) }
 {
-    let mut run = [0u32; 80];
-    let mut pairs = [0u32; 80];
-    let h = lay_state(g, &mut run, &mut pairs);
-    let o = begin_256(&mut run, &mut pairs, h, g.start, width);
-    close_256(&mut run, &mut pairs, o, message, l)
+    let mut run = Run::new();
+    let h = lay_state(g, &mut run.cells, &mut run.pairs);
+    let o = begin_256(&mut run, h, g.start, width);
+    close_256(&mut run, o, message, l)
 }

@@ -9,6 +9,7 @@ ghost use Rattle.mac_tagging.specs.InnerSteps.{Closes};
 use super::updates::update;
 use mac_registers::{Open, tag_with};
 use zuc_bulk::words_on;
+use zuc_turn::Run;
 
 // A byte's r high bits, a set bit after them, and zeros.
 fn marked(b: u8, r: usize) -> u8
@@ -46,21 +47,21 @@ fn last_tag(o: Open, tail: &[u8], q: usize, r: usize) -> [u64; 2]
 }
 
 // The closing of a ZUC-256 tag by l bits of a tail.
-pub fn close_256(run: &mut [u32], pairs: &mut [u32], o: Open, tail: &[u8], l: usize) -> [u64; 2]
-    requires opened { Opened run.old pairs.old o }
+pub fn close_256(run: &mut Run, o: Open, tail: &[u8], l: usize) -> [u64; 2]
+    requires opened { Opened run.old.cells run.old.pairs o }
     requires bits_fit { l ≤ length tail.now * 8 }
-    ensures { result ≡ tag_words o.width (closed-ZUC256 (o.width * 8) (tagging_of (stored_at run.old o)) tail.now l) }
+    ensures { result ≡ tag_words o.width (closed-ZUC256 (o.width * 8) (tagging_of (stored_at run.old.cells o)) tail.now l) }
 {
     let q = l / 8;
-    let e = update(run, pairs, o, &tail[..q]);
+    let e = update(run, o, &tail[..q]);
     last_tag(e, tail, q, l % 8)
 }
 
 // The extra word of ZUC-128 and EIA3 with n bits left over; after it the run is of no more use.
-fn extra(run: &mut [u32], pairs: &mut [u32], o: Open, n: usize) -> u32
-    requires opened { Opened run.old pairs.old o }
+fn extra(run: &mut Run, o: Open, n: usize) -> u32
+    requires opened { Opened run.old.cells run.old.pairs o }
     requires width_is { o.width ≡ 4 }
-    ensures { result ≡ extra_word (tagging_of (stored_at run.old o)) n }
+    ensures { result ≡ extra_word (tagging_of (stored_at run.old.cells o)) n }
 {
     let key = o.key;
     let h = o.h;
@@ -68,21 +69,21 @@ fn extra(run: &mut [u32], pairs: &mut [u32], o: Open, n: usize) -> u32
         return (key[0] % 0x1_0000_0000) as u32;
     }
     let mut word = [0u32; 1];
-    words_on(run, pairs, h, &mut word);
+    words_on(run, h, &mut word);
     word[0]
 }
 
 // The closing of a ZUC-128 or EIA3 tag.
-pub fn close_128(run: &mut [u32], pairs: &mut [u32], o: Open, tail: &[u8], l: usize) -> u32
-    requires opened { Opened run.old pairs.old o }
+pub fn close_128(run: &mut Run, o: Open, tail: &[u8], l: usize) -> u32
+    requires opened { Opened run.old.cells run.old.pairs o }
     requires width_is { o.width ≡ 4 }
     requires bits_fit { l ≤ length tail.now * 8 }
-    ensures { result ≡ closed-EIA3 (tagging_of (stored_at run.old o)) tail.now l }
+    ensures { result ≡ closed-EIA3 (tagging_of (stored_at run.old.cells o)) tail.now l }
 {
     let q = l / 8;
     let r = l % 8;
-    let e = update(run, pairs, o, &tail[..q]);
+    let e = update(run, o, &tail[..q]);
     let tag = last_tag(e, tail, q, r);
-    let word = extra(run, pairs, e, e.cnt * 8 + r);
+    let word = extra(run, e, e.cnt * 8 + r);
     (tag[0] as u32) ^ word
 }

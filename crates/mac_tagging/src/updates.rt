@@ -12,16 +12,16 @@ use mac_blocks::blocks;
 use mac_narrow::blocks_32;
 use mac_registers::{Moved, Open, fresh_at, key_at};
 use zuc_bulk::{index_after, words_on};
-use zuc_turn::Halves;
+use zuc_turn::{Halves, Run};
 
 // No tag yet, and a key pair of the first words.
-pub fn begin_128(run: &mut [u32], pairs: &mut [u32], h: Halves, start: usize) -> Open
-    requires at_rest { AtRest run.old pairs.old h }
+pub fn begin_128(run: &mut Run, h: Halves, start: usize) -> Open
+    requires at_rest { AtRest run.old.cells run.old.pairs h }
     requires start_fits { start < 16 }
-    ensures { Stands run.new pairs.new result (packed 4 (begun-EIA3 (held_on run.old h start))) }
+    ensures { Stands run.new.cells run.new.pairs result (packed 4 (begun-EIA3 (held_on run.old.cells h start))) }
 {
     let mut words = [0u32; 2];
-    let next = words_on(run, pairs, h, &mut words);
+    let next = words_on(run, h, &mut words);
     let key = key_at(4, &words, 0);
     Open {
         h: next,
@@ -35,15 +35,15 @@ pub fn begin_128(run: &mut [u32], pairs: &mut [u32], h: Halves, start: usize) ->
 }
 
 // The first words as the tag, and a key pair of those after them: all are drawn at once.
-pub fn begin_256(run: &mut [u32], pairs: &mut [u32], h: Halves, start: usize, width: usize) -> Open
-    requires at_rest { AtRest run.old pairs.old h }
+pub fn begin_256(run: &mut Run, h: Halves, start: usize, width: usize) -> Open
+    requires at_rest { AtRest run.old.cells run.old.pairs h }
     requires start_fits { start < 16 }
     requires width_fits { Width width }
-    ensures { Stands run.new pairs.new result (packed width (begun-ZUC256 (width * 8) (held_on run.old h start))) }
+    ensures { Stands run.new.cells run.new.pairs result (packed width (begun-ZUC256 (width * 8) (held_on run.old.cells h start))) }
 {
     let n = width / 4 * 3;
     let mut words = [0u32; 12];
-    let next = words_on(run, pairs, h, &mut words[..n]);
+    let next = words_on(run, h, &mut words[..n]);
     let tag = fresh_at(width, &words, 0);
     let key = key_at(width, &words, width / 4);
     Open {
@@ -63,9 +63,7 @@ pub fn behind(waiting: [u8; 16], cnt: usize, bytes: &[u8]) -> [u8; 16]
     ensures { result ≡ paste waiting cnt bytes.now (length bytes.now) }
 {
     let mut rem = waiting;
-    for i in 0..bytes.len() {
-        rem[cnt + i] = bytes[i];
-    }
+    rem[cnt..cnt + bytes.len()].copy_from_slice(bytes);
     rem
 }
 
@@ -92,22 +90,22 @@ fn wait(o: Open, bytes: &[u8]) -> Open
 }
 
 // Whole blocks, as many as there are, where nothing waits.
-fn whole(run: &mut [u32], pairs: &mut [u32], o: Open, message: &[u8], from: usize) -> Moved
-    requires { (Opened run.old pairs.old o) × ((o.cnt ≡ 0) × (from ≤ length message.now)) }
-    ensures { AtRest run.new pairs.new result.o.h × Blocks (stored_at run.old o) message.now from (stored_at run.new result.o) result.at }
+fn whole(run: &mut Run, o: Open, message: &[u8], from: usize) -> Moved
+    requires { (Opened run.old.cells run.old.pairs o) × ((o.cnt ≡ 0) × (from ≤ length message.now)) }
+    ensures { AtRest run.new.cells run.new.pairs result.o.h × Blocks (stored_at run.old.cells o) message.now from (stored_at run.new.cells result.o) result.at }
 {
     let width = o.width;
     if width == 4 {
-        return blocks_32(run, pairs, o, message, from);
+        return blocks_32(run, o, message, from);
     }
-    blocks(run, pairs, o, message, from)
+    blocks(run, o, message, from)
 }
 
 // The bytes that a block lacks: it is fed, and nothing waits.
-fn complete(run: &mut [u32], pairs: &mut [u32], o: Open, bytes: &[u8]) -> Open
-    requires opened { Opened run.old pairs.old o }
+fn complete(run: &mut Run, o: Open, bytes: &[u8]) -> Open
+    requires opened { Opened run.old.cells run.old.pairs o }
     requires fills { o.cnt + length bytes.now ≡ o.width }
-    ensures { Stands run.new pairs.new result (packed o.width (updated (o.width * 8) (tagging_of (stored_at run.old o)) bytes.now)) × (result.cnt ≡ 0) }
+    ensures { Stands run.new.cells run.new.pairs result (packed o.width (updated (o.width * 8) (tagging_of (stored_at run.old.cells o)) bytes.now)) × (result.cnt ≡ 0) }
 {
     let h = o.h;
     let key = o.key;
@@ -124,36 +122,36 @@ fn complete(run: &mut [u32], pairs: &mut [u32], o: Open, bytes: &[u8]) -> Open
         cnt: 0,
         width,
     };
-    let r = whole(run, pairs, empty, &full[..width], 0);
+    let r = whole(run, empty, &full[..width], 0);
     r.o
 }
 
 // What waits is completed, where something waits.
-fn top_up(run: &mut [u32], pairs: &mut [u32], o: Open, message: &[u8]) -> Moved
-    requires opened { Opened run.old pairs.old o }
+fn top_up(run: &mut Run, o: Open, message: &[u8]) -> Moved
+    requires opened { Opened run.old.cells run.old.pairs o }
     requires fills { o.width ≤ o.cnt + length message.now }
-    ensures { Topped run.old o message.now run.new pairs.new result }
+    ensures { Topped run.old.cells o message.now run.new.cells run.new.pairs result }
 {
     let cnt = o.cnt;
     if cnt == 0 {
         return Moved { o, at: 0 };
     }
     let at = o.width - cnt;
-    let next = complete(run, pairs, o, &message[..at]);
+    let next = complete(run, o, &message[..at]);
     Moved { o: next, at }
 }
 
 // First the block that waits, then whole blocks; the rest waits.
-pub fn update(run: &mut [u32], pairs: &mut [u32], o: Open, message: &[u8]) -> Open
-    requires { Opened run.old pairs.old o }
-    ensures { Stands run.new pairs.new result (packed o.width (updated (o.width * 8) (tagging_of (stored_at run.old o)) message.now)) }
+pub fn update(run: &mut Run, o: Open, message: &[u8]) -> Open
+    requires { Opened run.old.cells run.old.pairs o }
+    ensures { Stands run.new.cells run.new.pairs result (packed o.width (updated (o.width * 8) (tagging_of (stored_at run.old.cells o)) message.now)) }
 {
     if message.len() < o.width - o.cnt {
         return wait(o, message);
     }
-    let topped = top_up(run, pairs, o, message);
+    let topped = top_up(run, o, message);
     let first = topped.o;
-    let fed = whole(run, pairs, first, message, topped.at);
+    let fed = whole(run, first, message, topped.at);
     let last = fed.o;
     let at = fed.at;
     wait(last, &message[at..])

@@ -1,15 +1,17 @@
 // Masking in place by bit length (the crate's internal/stream_cipher.rs), in the crate's mode and in clean mode; EEA3 in one call is a module.
 #![tactic(auto)]
 
-ghost use Rattle.std.specs.Prelude.{false, ◌≡◌, ◌≤◌, ◌*◌, ◌+◌, length};
-ghost use Rattle.mask.specs.Inner.{Enough, InPlace, Reaches, cleared, drawn_from, end_of, zeroed};
+ghost use Rattle.std.specs.Prelude.{◌≡◌, ◌≤◌, ◌*◌, ◌+◌, length};
+ghost use Rattle.mask.specs.Inner.{Enough, Reaches, cleared, end_of, zeroed};
 ghost use Rattle.mask.specs.Modes.{mask_outcome};
 ghost use Rattle.mask.specs.Outcome.{told, crate_outcome, clean_outcome};
 ghost use Rattle.standard.specs.Confidentiality.{mask_clean};
-ghost use Rattle.standard.specs.Generator.{after, word_at};
+ghost use Rattle.standard.proofs.Cells.{Cells};
+ghost use Rattle.standard.proofs.Held.{Ready};
+ghost use Rattle.standard.specs.Generator.{after, started, word_at};
 ghost use Rattle.standard.specs.Notation.{each_from};
 ghost use Rattle.standard.specs.States.{moved};
-ghost use Rattle.zuc.specs.Reading.{counted_of, held_of};
+ghost use Rattle.zuc.specs.Reading.{counted_of, held_of, loaded_of};
 ghost use Rattle.zuc_turn.specs.InnerRun.{Laid, Low, Standing, state_at};
 
 use mask_bulk::mask_on;
@@ -18,7 +20,7 @@ use words::keep_high;
 use zuc::{Generator, Loaded, Zuc};
 use zuc_bulk::startup::begin;
 use zuc_bulk::{index_after, lay_state, state_of};
-use zuc_turn::Halves;
+use zuc_turn::{Halves, Run};
 
 pub mod eea3;
 
@@ -27,11 +29,7 @@ fn zero_from(buf: &mut [u8], from: usize)
     requires { from ≤ length buf.old }
     ensures { buf.new ≡ each_from (zeroed from) 0 buf.old }
 {
-    let mut i = from;
-    while i < buf.len() {
-        buf[i] = 0;
-        i += 1;
-    }
+    buf[from..].fill(0);
 }
 
 // Keeps the bytes before byte q and its k high bits, and zeroes what follows.
@@ -75,60 +73,41 @@ fn reach_of(clean: bool, bits: usize, n: usize) -> Reach
 }
 
 // Both modes' mask, on a run that stands at 0.
-fn mask_standing(
-    run: &mut [u32],
-    pairs: &mut [u32],
-    start: Halves,
-    buf: &mut [u8],
-    bits: usize,
-    reach: Reach,
-) -> Halves
-    requires laid { Laid run.old pairs.old 0 }
+fn mask_standing(run: &mut Run, start: Halves, buf: &mut [u8], bits: usize, reach: Reach) -> Halves
+    requires laid { Laid run.old.cells run.old.pairs 0 }
     requires halves { Low start }
     requires enough { Enough (length buf.old) bits reach }
-    ensures state { Standing run.new pairs.new 0 result (after reach.drawn (state_at run.old 0 start)) }
-    ensures bytes { buf.new ≡ mask_clean (word_at (state_at run.old 0 start)) (end_of bits reach) buf.old }
+    ensures state { Standing run.new.cells run.new.pairs 0 result (after reach.drawn (state_at run.old.cells 0 start)) }
+    ensures bytes { buf.new ≡ mask_clean (word_at (state_at run.old.cells 0 start)) (end_of bits reach) buf.old }
 {
     let to = reach.to;
-    let h = mask_on(run, pairs, start, &mut buf[..to], reach.drawn);
+    let h = mask_on(run, start, &mut buf[..to], reach.drawn);
     keep_bits(buf, bits / 8, reach.kept);
     h
 }
 
-// A run that stands at 0 for a state, or, where the cells are fresh from a load, for what start-up makes of them.
-fn lay_on(fresh: bool, z: Zuc, run: &mut [u32], pairs: &mut [u32]) -> Halves
-    requires room { (length run.old ≡ 80) × (length pairs.old ≡ 80) }
-    requires in_place { InPlace fresh z }
-    ensures { Standing run.new pairs.new 0 result (drawn_from fresh z) }
+// The mask by the words of a state, and the state after it.
+fn mask_held(z: Zuc, buf: &mut [u8], bits: usize, reach: Reach) -> Zuc
+    requires ready { Ready (held_of z) }
+    requires enough { Enough (length buf.old) bits reach }
+    ensures state { held_of result ≡ moved reach.drawn (held_of z) }
+    ensures bytes { buf.new ≡ mask_clean (word_at (held_of z).meaning) (end_of bits reach) buf.old }
 {
-    if fresh {
-        let s = z.s;
-        let loaded = Loaded {
-            s,
-            r1: z.r1,
-            r2: z.r2,
-        };
-        return begin(loaded, run, pairs);
-    }
-    lay_state(z, run, pairs)
+    let mut run = Run::new();
+    let laid = lay_state(z, &mut run.cells, &mut run.pairs);
+    let h = mask_standing(&mut run, laid, buf, bits, reach);
+    state_of(&run.cells, h, index_after(z.start, reach.drawn))
 }
 
-// The mask by the same, and the state after a mask by a state; after any other nobody asks for it. Both forms of a call come here, so that
-// the loop has the run as its own: of a run that is lent no load could be moved before a store.
-fn mask_from(fresh: bool, z: Zuc, buf: &mut [u8], bits: usize, reach: Reach) -> Zuc
-    requires in_place { InPlace fresh z }
+// The mask by the words of what start-up makes of loaded cells; the state after it is nobody's.
+fn mask_loaded(loaded: Loaded, buf: &mut [u8], bits: usize, reach: Reach)
+    requires cells { Cells loaded.s }
     requires enough { Enough (length buf.old) bits reach }
-    ensures state { fresh ≡ false → held_of result ≡ moved reach.drawn (held_of z) }
-    ensures bytes { buf.new ≡ mask_clean (word_at (drawn_from fresh z)) (end_of bits reach) buf.old }
+    ensures { buf.new ≡ mask_clean (word_at (started (loaded_of loaded))) (end_of bits reach) buf.old }
 {
-    let mut run = [0u32; 80];
-    let mut pairs = [0u32; 80];
-    let laid = lay_on(fresh, z, &mut run, &mut pairs);
-    let h = mask_standing(&mut run, &mut pairs, laid, buf, bits, reach);
-    if fresh {
-        return z;
-    }
-    state_of(&run, h, index_after(z.start, reach.drawn))
+    let mut run = Run::new();
+    let laid = begin(loaded, &mut run);
+    mask_standing(&mut run, laid, buf, bits, reach);
 }
 
 // Both modes: the tests, and then the mask. The words drawn, or BadState, BadBits, Spent, in this order: then state and buffer stay as they came.
@@ -146,7 +125,7 @@ fn mask(clean: bool, state: &mut Generator, buf: &mut [u8], bits: usize) -> Resu
     if !words::has_left(state.count, drawn) {
         return Err(Refusal::Spent);
     }
-    state.z = mask_from(false, state.z, buf, bits, reach);
+    state.z = mask_held(state.z, buf, bits, reach);
     state.count += drawn;
     Ok(drawn)
 }

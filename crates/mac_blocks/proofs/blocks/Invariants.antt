@@ -9,10 +9,10 @@ use Rattle.mac_blocks.proofs.blocks.Given as goal
 
 abbrev pub invariant-loop-i : goal.invariant-loop-i
 invariant-loop-i l =
-    (l.i ≤ length l.message)
+    (l.i ≤ l.at)
     × (l.o.cnt ≡ 0)
     × ((n : ℕ) × (l.i ≡ l.from + n * l.initial.o.width))
-    × Stands l.run l.pairs l.o (packed l.initial.o.width (updated (l.initial.o.width * 8) (tagging_of (stored_at l.initial.run l.initial.o)) (take (l.i - l.from) (drop l.from l.message))))
+    × Stands l.run.cells l.run.pairs l.o (packed l.initial.o.width (updated (l.initial.o.width * 8) (tagging_of (stored_at l.initial.run.cells l.initial.o)) (take (l.i - l.from) (drop l.from l.message))))
 
 abbrev pub decreases-loop-i : goal.decreases-loop-i
-decreases-loop-i l = length l.message - l.i
+decreases-loop-i l = l.at - l.i

@@ -53,7 +53,7 @@ returns c =
     let o = a.o in
     let w : ℕ = o.width in
     let n : ℕ = length a.part.now / 4 in
-    let σ : Held = held_on a.run.now o.h o.start in
+    let σ : Held = held_on a.run.now.cells o.h o.start in
     let holds = c.requires.opened.holds in
     let drew = c.words_on-next.ensures in
     let f = c.feed_all-fed in (
@@ -62,8 +62,8 @@ returns c =
         stored =
             ap (λ (τ : Held). empty_of w τ f.result.key f.result.tag)
             (moved-is n σ holds.good.sound.start (drew.standing.state ∙ ap (λ (k : ℕ). after k σ.meaning) room) c.index_after.ensures)
-            ∙ f.ensures σ (emptied-held (stored_at a.run.now o) holds) (filled (word_at σ.meaning) n _ zeros _ drew.words (omega (arith, c.requires.blocks.1)))
-            ∙ ap (λ (st : Tagging). packed w (updated (w * 8) st a.part.now)) (emptied-is (stored_at a.run.now o) c.requires.blocks.0);
+            ∙ f.ensures σ (emptied-held (stored_at a.run.now.cells o) holds) (filled (word_at σ.meaning) n _ zeros _ drew.words (omega (arith, c.requires.blocks.1)))
+            ∙ ap (λ (st : Tagging). packed w (updated (w * 8) st a.part.now)) (emptied-is (stored_at a.run.now.cells o) c.requires.blocks.0);
       },
       refl,
     )

@@ -83,6 +83,23 @@ loop-i-preserved c =
           (c.loop-i.invariant.2 σ h e) fits.1 fits.0 block-length c.tag_with-sum.ensures c.fresh_at-fresh.ensures c.key_on-moved.ensures,
     )
 
+-- the last block
+pub returns-2 : goal.returns-2
+returns-2 c =
+    let a = c.args in
+    let i = c.loop-i.i in
+    let fits : (i + a.width ≤ length a.part.now)
+    × (i % 4 ≡ 0)
+    × (0 < a.width) =
+    room c.requires.width_fits i (length a.part.now) c.loop-i.invariant.1.0 c.requires.part_fits.1.0 c.loop-i.invariant.1.1 c.requires.part_fits.1.1 c.loop-i-test.true in
+    let block-length : length (take (i + a.width - i) (drop i a.part.now)) ≡ a.width =
+    let n : i + a.width - i ≡ a.width = omega arith in
+    length-take-le _ (drop i a.part.now) (omega (arith, fits.0, length-drop i a.part.now)) ∙ n in
+    let end : i + a.width ≡ length a.part.now = omega (arith, fits.0) in
+    λ σ h e. fed-all a.width a.key a.tag a.words.now a.part.now σ h e (i + a.width) _ _
+    (fed-on a.width a.key a.tag a.words.now a.part.now σ h e i c.loop-i.fed.key c.loop-i.fed.tag _ _ _
+    (c.loop-i.invariant.2 σ h e) fits.1 fits.0 block-length c.tag_with-sum.ensures c.fresh_at-fresh.ensures c.key_on-moved.ensures) end
+
 pub returns : goal.returns
 returns c =
     let a = c.args in

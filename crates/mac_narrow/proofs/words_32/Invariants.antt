@@ -21,8 +21,8 @@ invariant-loop-j l =
     (l.j ≤ l.n)
     × (l.n ≤ 64)
     × (4 * l.n ≡ length l.part)
-    × Standing l.run l.pairs l.j l.h (after l.j (state_at l.initial.run 0 l.initial.h))
-    × (idle (moved l.j (at l.initial.run l.initial.h l.start)) l.key l.tag ≡ updated 32 (idle (at l.initial.run l.initial.h l.start) l.initial.key l.initial.tag) (take (4 * l.j) l.part))
+    × Standing l.run.cells l.run.pairs l.j l.h (after l.j (state_at l.initial.run.cells 0 l.initial.h))
+    × (idle (moved l.j (at l.initial.run.cells l.initial.h l.start)) l.key l.tag ≡ updated 32 (idle (at l.initial.run.cells l.initial.h l.start) l.initial.key l.initial.tag) (take (4 * l.j) l.part))
 
 abbrev pub decreases-loop-j : goal.decreases-loop-j
 decreases-loop-j l = l.n - l.j

@@ -20,7 +20,7 @@ loop-j-init c =
 pub loop-j-preserved : goal.loop-j-preserved
 loop-j-preserved c =
     let l = c.loop-j in
-    let σ : State = state_at c.args.run.now 0 c.args.start in
+    let σ : State = state_at c.args.run.now.cells 0 c.args.start in
     let j : ℕ = l.j in
     let turned = c.turn-t.ensures in
     let drawn = turn-word σ _ _ j _ l.invariant.3 _ _ _ turned in
@@ -38,7 +38,7 @@ loop-j-preserved c =
 pub returns : goal.returns
 returns c =
     let l = c.loop-j in
-    let σ : State = state_at c.args.run.now 0 c.args.start in
+    let σ : State = state_at c.args.run.now.cells 0 c.args.start in
     let end : l.j ≡ length c.args.part.now / 4 = omega arith in
     let whole = c.requires.part_fits.1 in
-    record { state = c.rest.ensures _ _ (subst (λ (k : ℕ). Standing l.run l.pairs k l.h (after k σ)) end l.invariant.3); bytes = sym (from_end (masked (word_at σ)) (4 * l.j) l.part (omega (arith, whole))) ∙ l.invariant.4 ∙ from-start _ _ }
+    record { state = c.rest.ensures _ _ (subst (λ (k : ℕ). Standing l.run.cells l.run.pairs k l.h (after k σ)) end l.invariant.3); bytes = sym (from_end (masked (word_at σ)) (4 * l.j) l.part (omega (arith, whole))) ∙ l.invariant.4 ∙ from-start _ _ }

@@ -13,8 +13,8 @@ invariant-loop-j l =
     (l.j ≤ l.n)
     × (l.n ≤ 64)
     × (length l.part ≡ length l.initial.part)
-    × Standing l.run l.pairs l.j l.h (after l.j (state_at l.initial.run 0 l.initial.h))
-    × (done_from (masked (word_at (state_at l.initial.run 0 l.initial.h))) (4 * l.j) l.part ≡ done_from (masked (word_at (state_at l.initial.run 0 l.initial.h))) 0 l.initial.part)
+    × Standing l.run.cells l.run.pairs l.j l.h (after l.j (state_at l.initial.run.cells 0 l.initial.h))
+    × (done_from (masked (word_at (state_at l.initial.run.cells 0 l.initial.h))) (4 * l.j) l.part ≡ done_from (masked (word_at (state_at l.initial.run.cells 0 l.initial.h))) 0 l.initial.part)
 
 abbrev pub decreases-loop-j : goal.decreases-loop-j
 decreases-loop-j l = l.n - l.j

@@ -23,7 +23,7 @@ pub loop-j-preserved : goal.loop-j-preserved
 loop-j-preserved c =
     let l = c.loop-j in (
       omega arith,
-      from-store _ _ _ (omega arith) (byte-masked _ l.j (get_or l.part l.j 0) _ (omega arith) c.byte_of-k.ensures) ∙ l.invariant.1,
+      from-store _ _ _ (omega arith) (byte-masked _ l.j (get_or l.part l.j 0) _ (omega arith) c.byte_of.ensures) ∙ l.invariant.1,
       simp length-set (omega arith),
     )
 

@@ -14,14 +14,14 @@ slice_bounds-update-end c =
 
 pub last_tag-requires : goal.last_tag-requires
 last_tag-requires c =
-    let held : Holds (stored_at c.update-e.new.run c.update-e.result) =
+    let held : Holds (stored_at c.update-e.new.run.cells c.update-e.result) =
     end-held c.requires.opened.holds.good c.args.tail.now c.args.l _ c.update-e.ensures.stored in
     let h = held in
     record { width_fits = (h.good.a-width, cnt-most _ h); bits_fit = (omega arith, omega (arith, c.requires.bits_fit)) }
 
 pub returns : goal.returns
 returns c =
-    let held : Holds (stored_at c.update-e.new.run c.update-e.result) =
+    let held : Holds (stored_at c.update-e.new.run.cells c.update-e.result) =
     end-held c.requires.opened.holds.good c.args.tail.now c.args.l _ c.update-e.ensures.stored in
-    let run = c.update-e.new.run in
+    let run = c.update-e.new.run.cells in
     closes-256 c.requires.opened.holds.good c.args.tail.now c.args.l _ c.update-e.ensures.stored _ (c.last_tag.ensures run held)

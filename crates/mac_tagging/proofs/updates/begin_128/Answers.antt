@@ -16,7 +16,7 @@ returns c =
     let two : length c.words_on-next.new.out ≡ 2 =
     ap length c.words_on-next.ensures.words ∙ length-listed _ 0 2 in
     let drew = c.words_on-next.ensures in
-    let σ : Held = held_on c.args.run.now c.args.h c.args.start in
+    let σ : Held = held_on c.args.run.now.cells c.args.h c.args.start in
     record {
       rest = at_rest drew.standing;
       stored =

@@ -68,7 +68,7 @@ returns c =
     length-take-le _ zeros most in
     let drew = c.words_on-next.ensures in
     let n : ℕ = c.args.width / 4 * 3 in
-    let σ : Held = held_on c.args.run.now c.args.h c.args.start in
+    let σ : Held = held_on c.args.run.now.cells c.args.h c.args.start in
     record {
       rest = at_rest drew.standing;
       stored =

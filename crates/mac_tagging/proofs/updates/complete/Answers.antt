@@ -32,15 +32,15 @@ slice_bounds-whole-end c =
 pub whole-r-requires : goal.whole-r-requires
 whole-r-requires c =
     let opened = c.requires.opened in
-    (record { rest = opened.rest; holds = emptied-held (stored_at c.args.run.now c.args.o) opened.holds }, (refl, omega arith))
+    (record { rest = opened.rest; holds = emptied-held (stored_at c.args.run.now.cells c.args.o) opened.holds }, (refl, omega arith))
 
 pub returns : goal.returns
 returns c =
     let fed = c.whole-r in
     let a = c.args in
-    let st = stored_at a.run.now a.o in
+    let st = stored_at a.run.now.cells a.o in
     let h = c.requires.opened.holds in
-    let r = stored_at c.whole-r.new.run fed.result.o in (
+    let r = stored_at c.whole-r.new.run.cells fed.result.o in (
       record {
         rest = fed.ensures.0;
         stored =

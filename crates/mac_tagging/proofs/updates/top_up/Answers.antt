@@ -18,7 +18,7 @@ returns-then-cnt-eq0 c =
 pub overflow_sub-at : goal.overflow_sub-at
 overflow_sub-at c =
     let short : c.args.o.cnt < c.args.o.width =
-    cnt-lt (stored_at c.args.run.now c.args.o) c.requires.opened.holds in
+    cnt-lt (stored_at c.args.run.now.cells c.args.o) c.requires.opened.holds in
     omega (arith, short)
 
 pub slice_bounds-complete-end : goal.slice_bounds-complete-end
@@ -30,7 +30,7 @@ slice_bounds-complete-end c =
 pub complete-next-requires : goal.complete-next-requires
 complete-next-requires c =
     let short : c.args.o.cnt < c.args.o.width =
-    cnt-lt (stored_at c.args.run.now c.args.o) c.requires.opened.holds in
+    cnt-lt (stored_at c.args.run.now.cells c.args.o) c.requires.opened.holds in
     let lacking : length (take (c.args.o.width - c.args.o.cnt) c.args.message.now) ≡ c.args.o.width - c.args.o.cnt =
     length-take-le _ _ (omega (arith, c.requires.fills)) in
     record { opened = c.requires.opened; fills = omega (arith, short, lacking) }

@@ -20,15 +20,15 @@ use Rattle.mac_tagging.proofs.updates.update.Goals as goal
 pub overflow_sub-o : goal.overflow_sub-o
 overflow_sub-o c =
     let short : c.args.o.cnt < c.args.o.width =
-    cnt-lt (stored_at c.args.run.now c.args.o) c.requires.holds in
+    cnt-lt (stored_at c.args.run.now.cells c.args.o) c.requires.holds in
     omega (arith, short)
 
 pub returns-then-message-o : goal.returns-then-message-o
 returns-then-message-o c =
-    let run = c.args.run.now in
+    let run = c.args.run.now.cells in
     let opened = c.requires in
     record {
-      rest = subst (λ (h : Halves). AtRest run c.args.pairs.now h) (sym c.wait.ensures.same) opened.rest;
+      rest = subst (λ (h : Halves). AtRest run c.args.run.now.pairs h) (sym c.wait.ensures.same) opened.rest;
       stored = c.wait.ensures.stored run opened.holds;
     }
 
@@ -40,8 +40,8 @@ whole-fed-requires c =
 pub wait-requires-2 : goal.wait-requires-2
 unfolding packed
 wait-requires-2 c =
-    let so_far : stored_at c.whole-fed.new.run c.whole-fed.result.o
-    ≡ packed c.args.o.width (updated (c.args.o.width * 8) (tagging_of (stored_at c.args.run.now c.args.o)) (take c.whole-fed.result.at c.args.message.now)) =
+    let so_far : stored_at c.whole-fed.new.run.cells c.whole-fed.result.o
+    ≡ packed c.args.o.width (updated (c.args.o.width * 8) (tagging_of (stored_at c.args.run.now.cells c.args.o)) (take c.whole-fed.result.at c.args.message.now)) =
     let topped = c.top_up-topped in
     let b = c.whole-fed.ensures.1 in
     part-on c.requires.holds.good c.args.message.now topped.result.at c.whole-fed.result.at (omega (arith, b.at-is)) topped.ensures.stands.stored b.held in
@@ -59,21 +59,21 @@ wait-requires-2 c =
 
 pub returns : goal.returns
 returns c =
-    let so_far : stored_at c.whole-fed.new.run c.whole-fed.result.o
-    ≡ packed c.args.o.width (updated (c.args.o.width * 8) (tagging_of (stored_at c.args.run.now c.args.o)) (take c.whole-fed.result.at c.args.message.now)) =
+    let so_far : stored_at c.whole-fed.new.run.cells c.whole-fed.result.o
+    ≡ packed c.args.o.width (updated (c.args.o.width * 8) (tagging_of (stored_at c.args.run.now.cells c.args.o)) (take c.whole-fed.result.at c.args.message.now)) =
     let topped = c.top_up-topped in
     let b = c.whole-fed.ensures.1 in
     part-on c.requires.holds.good c.args.message.now topped.result.at c.whole-fed.result.at (omega (arith, b.at-is)) topped.ensures.stands.stored b.held in
     let a = c.args in
     let w = a.o.width in
     let m : List ℕ = a.message.now in
-    let run = c.whole-fed.new.run in
+    let run = c.whole-fed.new.run.cells in
     let fed = c.whole-fed.ensures in
     let good = c.requires.holds.good in
     let waits = c.wait-2.ensures in
     record {
-      rest = subst (λ (h : Halves). AtRest run c.whole-fed.new.pairs h) (sym waits.same) fed.0;
+      rest = subst (λ (h : Halves). AtRest run c.whole-fed.new.run.pairs h) (sym waits.same) fed.0;
       stored =
           part-on good m c.whole-fed.result.at (length m) fed.1.within so_far (waits.stored run (held-as so_far (good-updated _ good)))
-          ∙ ap (λ (l : List ℕ). packed w (updated (w * 8) (tagging_of (stored_at a.run.now a.o)) l)) (take_all (length m) m (omega arith));
+          ∙ ap (λ (l : List ℕ). packed w (updated (w * 8) (tagging_of (stored_at a.run.now.cells a.o)) l)) (take_all (length m) m (omega arith));
     }
