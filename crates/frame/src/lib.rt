@@ -27,7 +27,7 @@ fn body_fits(bits: u32, body: &[u8]) -> bool
 {
     let l = bits as usize;
     let n = body.len();
-    if l / 8 + (l % 8 + 7) / 8 != n {
+    if l.div_ceil(8) != n {
         return false;
     }
     if l % 8 == 0 {
