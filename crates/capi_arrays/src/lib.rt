@@ -142,13 +142,9 @@ pub fn tag_array_of(s: TagState, count: usize) -> [u64; 21]
     ensures is { result ≡ tag_array_of (record { held = stored_of s; count = count }) }
     ensures back { stored_in result ≡ record { held = stored_of s; count = count } }
 {
-    let g = s.g;
-    let key = s.key;
-    let tag = s.tag;
-    let rem = s.rem;
-    let w = words_of(g);
-    let high = wide_at(&rem, 0);
-    let low = wide_at(&rem, 8);
+    let w = words_of(s.g);
+    let high = wide_at(&s.rem, 0);
+    let low = wide_at(&s.rem, 8);
     [
         w[0],
         w[1],
@@ -159,14 +155,14 @@ pub fn tag_array_of(s: TagState, count: usize) -> [u64; 21]
         w[6],
         w[7],
         w[8],
-        g.start as u64,
+        s.g.start as u64,
         count as u64,
-        key[0],
-        key[1],
-        key[2],
-        key[3],
-        tag[0],
-        tag[1],
+        s.key[0],
+        s.key[1],
+        s.key[2],
+        s.key[3],
+        s.tag[0],
+        s.tag[1],
         high,
         low,
         s.cnt as u64,
