@@ -25,19 +25,14 @@ fn feed_all(width: usize, key: [u64; 4], tag: [u64; 2], words: &[u32], part: &[u
     ensures { fed_by width key tag words.now part.now result.key result.tag }
 {
     let mut fed = Fed { key, tag };
-    let mut i: usize = 0;
-    while i < part.len() {
-        let e = i + width;
-        let k = fed.key;
-        let t = fed.tag;
-        let sum = tag_with(width, k, t, &part[i..e]);
+    for i in (0..part.len()).step_by(width) {
+        let sum = tag_with(width, fed.key, fed.tag, &part[i..i + width]);
         let fresh = fresh_at(width, words, i / 4);
-        let moved = key_on(width, k, fresh);
+        let moved = key_on(width, fed.key, fresh);
         fed = Fed {
             key: moved,
             tag: sum,
         };
-        i = e;
     }
     fed
 }
