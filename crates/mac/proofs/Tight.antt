@@ -10,7 +10,8 @@ use Rattle.refusals.specs.declared.Refusal.{Refusal}
 use Rattle.refusals.specs.Numbers.{answer_number, refusal_number}
 use Rattle.zuc.proofs.Turning.{read-once}
 use Rattle.zuc.specs.Reading.{cells_from}
-use Rattle.mac_registers.specs.declared.TagState.{TagState}
+use Rattle.mac_registers.specs.declared.TagOn.{TagOn}
+use Rattle.zuc.specs.declared.Zuc.{Zuc}
 use Rattle.standard.specs.States.{Counted, Stored, from_start, zero_stored, zeros}
 use Rattle.mac_registers.specs.Stored.{stored_of}
 use Rattle.mac.proofs.zuc128.new.Reads as zuc128-new
@@ -31,7 +32,7 @@ use Rattle.mac.specs.Reading.{tagged_of, tagged_of-128, tagged_of-256}
 use Rattle.mac.specs.Calls.{Closing, Once, Outcome, finish_told, no_words, once_told, tag_told, update_told}
 
 -- a struct is known by its reading
-state-back : {s s' : TagState} → stored_of s ≡ stored_of s' → s ≡ s'
+state-back : {s s' : TagOn Zuc} → stored_of s ≡ stored_of s' → s ≡ s'
 state-back {s} {s'} e =
     λ i. record {
       g = read-once s.g s'.g (ap (λ (x : Stored). x.generator) e) i;
@@ -42,7 +43,7 @@ state-back {s} {s'} e =
       width = (e i).width;
     }
 
-counted-back : {s s' : TagState} {n n' : ℕ} → tagged_of s n ≡ tagged_of s' n' → ◌≡◌ {A = TagState × ℕ} (s, n) (s', n')
+counted-back : {s s' : TagOn Zuc} {n n' : ℕ} → tagged_of s n ≡ tagged_of s' n' → ◌≡◌ {A = TagOn Zuc × ℕ} (s, n) (s', n')
 counted-back e = λ i. (state-back (λ j. (e j).held) i, (e i).count)
 
 mac-128 : (m m' : Mac128) → tagged_of-128 m ≡ tagged_of-128 m' → m ≡ m'
@@ -52,7 +53,7 @@ mac-256 : (m m' : Mac256) → tagged_of-256 m ≡ tagged_of-256 m' → m ≡ m'
 mac-256 m m' e = λ i. let x = counted-back e i in record { state = x.0; count = x.1 }
 
 -- what is told of a start tells what is returned: a refused one is read as zeros
-no_state : TagState
+no_state : TagOn Zuc
 no_state =
     record { g = record { s = replicate 16 0; r1 = 0; r2 = 0; start = 0 }; key = replicate 4 0; tag = replicate 2 0; rem = replicate 16 0; cnt = 0; width = 0 }
 

@@ -4,8 +4,8 @@ use mathlib.Core.Path.{◌≡◌, refl, sym, ap, ◌∙◌, subst}
 use mathlib.Core.List.{List}
 use Prim.Native.Nat.{ℕ, ◌+◌, ◌*◌, ◌-◌, ◌/◌, ◌%◌, ◌^◌, ◌<◌, ◌≤◌}
 use native.Mathlib.Omega.{arith}
-use lib.ListN.{drop, length, take}
-use lib.Seq.{take_all}
+use lib.ListN.{drop, length, length-drop, take}
+use lib.Seq.{length-take-le, take_all}
 use Rattle.standard.specs.Bits.{M, bit_of, window}
 use Rattle.standard.specs.Generator.{word_at}
 use Rattle.standard.specs.States.{Held, Stored, moved}
@@ -42,21 +42,30 @@ module _ (w : ℕ) (key tag words part : List ℕ) (σ : Held) (held : Holds (em
   unfolding updated
   fed-none = ap (λ (τ : Held). empty_of w τ key tag) (moved_none σ) ∙ sym held.packs
 
-  pub fed-on : (i : ℕ) (k t sum f k' : List ℕ) → After i k t → i % 4 ≡ 0 → i + w ≤ length part
-      → length (take (i + w - i) (drop i part)) ≡ w
+  pub fed-on : (i : ℕ) (k t sum f k' : List ℕ) → After i k t → (n : ℕ) × (i ≡ n * w) → (m : ℕ) × (length part ≡ m * w)
+      → i < length part
       → sum ≡ tag_words w (tag_of w t ⊕ T (w * 8) (bit_of (w * 8 + w * 8) (key_of w k)) 0 (M (take (i + w - i) (drop i part))) (w * 8))
       → f ≡ tag_words w (window (bits_of words) (i / 4 * 32) (w * 8))
       → k' ≡ key_words w (key_of w k * 2 ^ (w * 8) % 2 ^ (w * 8 + w * 8) + tag_of w f)
       → After (i + w) k' sum
-  fed-on i k t sum f k' so whole fits full es ef ek =
+  fed-on i k t sum f k' so n m less es ef ek =
       ap (λ (τ : Held). empty_of w τ k' sum) (ap (λ (n : ℕ). moved n σ) next ∙ sym (moved-moved (i / 4) (w / 4) σ))
       ∙ fed-is s held.good.a-width block sum f k' es (ef ∙ ap (tag_words w) (bits-drawn words (length part / 4) σ drawn (i / 4 * 32) (w * 8) ahead ∙ sym (window-after (w * 8) (i / 4) σ))) ek
       ∙ block-is s (held-as so good) block refl full
       ∙ at_packed (λ x y. packed x (updated (x * 8) y block)) so good
       ∙ ap (packed w) (updated-on (w * 8) (tagging_of (empty_of w σ key tag)) part i (i + w) (omega arith))
     where
+      fits : (i + w ≤ length part) × (i % 4 ≡ 0) × (0 < w)
+      fits = room held.good.a-width i (length part) n.0 m.0 n.1 m.1 less
+
       block : List ℕ
       block = take (i + w - i) (drop i part)
+
+      whole : i + w - i ≡ w
+      whole = omega arith
+
+      full : length block ≡ w
+      full = length-take-le (i + w - i) (drop i part) (omega (arith, fits.0, length-drop i part)) ∙ whole
 
       s : Stored
       s = empty_of w (moved (i / 4) σ) k t
@@ -65,10 +74,10 @@ module _ (w : ℕ) (key tag words part : List ℕ) (σ : Held) (held : Holds (em
       good = good-updated (take i part) held.good
 
       next : (i + w) / 4 ≡ i / 4 + w / 4
-      next = omega (arith, (width-whole held.good.a-width).0)
+      next = omega (arith, (width-whole held.good.a-width).0, fits.1)
 
       below : (i + w) / 4 ≤ length part / 4
-      below = omega (arith, fits)
+      below = omega (arith, fits.0)
 
       ahead : i / 4 * 32 + w * 8 ≤ length part / 4 * 32
       ahead = omega (arith, next, below, quarters held.good.a-width)

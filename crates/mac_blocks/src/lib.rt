@@ -10,7 +10,6 @@ ghost use Rattle.mac_registers.specs.Tagging.{updated};
 ghost use Rattle.mac_blocks.specs.InnerWhole.{fed_by};
 
 use mac_registers::{Moved, Open, fresh_at, key_on, tag_with};
-use zuc_bulk::{index_after, words_on};
 use zuc_turn::Run;
 
 #[derive(Clone, Copy)]
@@ -27,12 +26,9 @@ fn feed_all(width: usize, key: [u64; 4], tag: [u64; 2], words: &[u32], part: &[u
 {
     let mut fed = Fed { key, tag };
     for i in (0..part.len()).step_by(width) {
-        let e = i + width;
-        let k = fed.key;
-        let t = fed.tag;
-        let sum = tag_with(width, k, t, &part[i..e]);
+        let sum = tag_with(width, fed.key, fed.tag, &part[i..i + width]);
         let fresh = fresh_at(width, words, i / 4);
-        let moved = key_on(width, k, fresh);
+        let moved = key_on(width, fed.key, fresh);
         fed = Fed {
             key: moved,
             tag: sum,
@@ -47,24 +43,17 @@ fn feed(run: &mut Run, o: Open, part: &[u8]) -> Open
     requires blocks { (o.cnt ≡ 0) × (length part.now ≤ 256) × ((n : ℕ) × (length part.now ≡ n * o.width)) }
     ensures { Stands run.new.cells run.new.pairs result (packed o.width (updated (o.width * 8) (tagging_of (stored_at run.old.cells o)) part.now)) × (result.cnt ≡ 0) }
 {
-    let width = o.width;
-    let key = o.key;
-    let tag = o.tag;
-    let h = o.h;
     let n = part.len() / 4;
     let mut words = [0u32; 64];
-    let next = words_on(run, h, &mut words[..n]);
-    let fed = feed_all(width, key, tag, &words, part);
-    let moved = fed.key;
-    let sum = fed.tag;
+    let g = o.g.draw(run, &mut words[..n]);
+    let Fed { key, tag } = feed_all(o.width, o.key, o.tag, &words, part);
     Open {
-        h: next,
-        start: index_after(o.start, n),
-        key: moved,
-        tag: sum,
+        g,
+        key,
+        tag,
         rem: [0u8; 16],
         cnt: 0,
-        width,
+        width: o.width,
     }
 }
 
@@ -72,7 +61,7 @@ fn feed(run: &mut Run, o: Open, part: &[u8]) -> Open
 pub fn blocks(run: &mut Run, start: Open, message: &[u8], from: usize) -> Moved
     requires opened { Opened run.old.cells run.old.pairs start }
     requires aligned { (start.cnt ≡ 0) × (from ≤ length message.now) }
-    ensures { AtRest run.new.cells run.new.pairs result.o.h × Blocks (stored_at run.old.cells start) message.now from (stored_at run.new.cells result.o) result.at }
+    ensures { AtRest run.new.cells run.new.pairs result.o.g.h × Blocks (stored_at run.old.cells start) message.now from (stored_at run.new.cells result.o) result.at }
 {
     let at = message.len() - (message.len() - from) % start.width;
     let mut o = start;

@@ -9,27 +9,26 @@ ghost use Rattle.mac_registers.specs.Tagging.{updated};
 ghost use Rattle.mac_narrow.specs.InnerNarrow.{Tagged, tagging_at};
 
 use mac_registers::sums::{joined, sum_32};
-use mac_registers::{Moved, Open};
+use mac_registers::{Moved, OnRun, Open};
 use zuc_bulk::{index_after, rest};
-use zuc_turn::{Halves, Run};
+use zuc_turn::Run;
 
-// What the loop carries beside the run: the registers, the key pair and the tag; and the index at which the cells will start.
+// A tag of 32 bits in the making where nothing waits: what the loop carries beside the run.
 #[derive(Clone, Copy)]
 pub struct Narrow {
-    pub h: Halves,
+    pub g: OnRun,
     pub key: u64,
     pub tag: u32,
-    pub start: usize,
 }
 
 // At most 64 blocks of four bytes. The cells and pairs are at the front, before and after.
 fn words_32(run: &mut Run, start: Narrow, part: &[u8]) -> Narrow
     requires laid { Laid run.old.cells run.old.pairs 0 }
-    requires halves { Low start.h × (start.start < 16) }
+    requires halves { Low start.g.h × (start.g.start < 16) }
     requires part_fits { (length part.now ≤ 256) × (length part.now % 4 ≡ 0) }
     ensures { Tagged run.new.cells run.new.pairs result (updated 32 (tagging_at run.old.cells start) part.now) }
 {
-    let mut h = start.h;
+    let mut h = start.g.h;
     let mut key = start.key;
     let mut tag = start.tag;
     let n = part.len() / 4;
@@ -42,18 +41,17 @@ fn words_32(run: &mut Run, start: Narrow, part: &[u8]) -> Narrow
         h = t.h;
     }
     rest(run, n);
-    Narrow {
+    let g = OnRun {
         h,
-        key,
-        tag,
-        start: index_after(start.start, n),
-    }
+        start: index_after(start.g.start, n),
+    };
+    Narrow { g, key, tag }
 }
 
 // Blocks of four bytes, as many as there are.
 fn parts_32(run: &mut Run, start: Narrow, part: &[u8]) -> Narrow
     requires laid { Laid run.old.cells run.old.pairs 0 }
-    requires halves { Low start.h × (start.start < 16) }
+    requires halves { Low start.g.h × (start.g.start < 16) }
     requires whole { length part.now % 4 ≡ 0 }
     ensures { Tagged run.new.cells run.new.pairs result (updated 32 (tagging_at run.old.cells start) part.now) }
 {
@@ -70,28 +68,22 @@ pub fn blocks_32(run: &mut Run, start: Open, message: &[u8], from: usize) -> Mov
     requires opened { Opened run.old.cells run.old.pairs start }
     requires aligned { (start.cnt ≡ 0) × (from ≤ length message.now) }
     requires width_is { start.width ≡ 4 }
-    ensures { AtRest run.new.cells run.new.pairs result.o.h × Blocks (stored_at run.old.cells start) message.now from (stored_at run.new.cells result.o) result.at }
+    ensures { AtRest run.new.cells run.new.pairs result.o.g.h × Blocks (stored_at run.old.cells start) message.now from (stored_at run.new.cells result.o) result.at }
 {
-    let h = start.h;
-    let key = start.key;
-    let tag = start.tag;
     let first = Narrow {
-        h,
-        key: key[0],
-        tag: tag[0] as u32,
-        start: start.start,
+        g: start.g,
+        key: start.key[0],
+        tag: start.tag[0] as u32,
     };
     let at = from + (message.len() - from) / 4 * 4;
     let s = parts_32(run, first, &message[from..at]);
-    let last = s.h;
-    let next = Open {
-        h: last,
-        start: s.start,
+    let o = Open {
+        g: s.g,
         key: [s.key, 0, 0, 0],
         tag: [s.tag as u64, 0],
         rem: [0; 16],
         cnt: 0,
         width: 4,
     };
-    Moved { o: next, at }
+    Moved { o, at }
 }

@@ -4,4 +4,4 @@ pub mod Lookup
 pub mod Widths
 pub mod Packed
 pub mod Fresh
-pub mod OnRun
+pub mod AtRest

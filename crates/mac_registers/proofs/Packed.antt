@@ -7,14 +7,14 @@ use mathlib.Core.Logic.{◌⊎◌, inl, inr, ⊎_elim}
 use Prim.Native.Nat.{ℕ, zero, suc, ◌+◌, ◌-◌, ◌*◌, ◌/◌, ◌%◌, ◌^◌, ◌<◌, ◌≤◌}
 use native.Mathlib.Omega.{arith}
 use native.Mathlib.Nat.{div-eq_of_lt, eq-zero-or-pos}
-use native.Mathlib.Numerals.{add-one}
 use lib.Arith.{digits_lt}
 use lib.Dec.{eqb, ltb}
 use lib.ListN.{drop, length, length-append, length-drop, replicate, take, take-append-drop}
-use lib.Seq.{drop_at, drop-cons, length-take-le, take_at}
+use lib.Seq.{drop_at, length-take-le, take_at}
 use lib.Bits.{xor_lt}
 use lib.Pow.{split}
-use borrow.Author.Tests.{eq-eqb, eqb-true, lt-ltb, ltb-true, ne_eqb}
+use borrow.Author.Tests.{eq-eqb, eqb-true, lt-ltb, ltb-true}
+use Rattle.std.specs.List.{list_all}
 use Rattle.standard.specs.Bits.{M, bit_of, z}
 use Rattle.standard.specs.Generator.{word_at}
 use Rattle.standard.specs.States.{Held, Stored, all_zero, formed, held_formed, unused}
@@ -70,18 +70,11 @@ width_is w t =
 pub is-width : {w : ℕ} → Width w → is_width w ≡ true
 is-width h = ⊎_elim (λ e. rw e refl) (λ o. ⊎_elim (λ e. rw e refl) (λ e. rw e refl) o) h
 
-pub no-width : (w : ℕ) → (Width w → ⊥) → is_width w ≡ false
-no-width w h = rw (ne_eqb w 4 (λ e. h (inl e)), ne_eqb w 8 (λ e. h (inr (inl e))), ne_eqb w 16 (λ e. h (inr (inr e)))) refl
-
--- zeros
-module _ (l : List ℕ) (i : ℕ) (h : i < length l) where
-  pub zero-not : (l ⟨ i ⟩ ≡ 0 → ⊥) → all_zero (drop i l) ≡ false
-  unfolding all_zero
-  zero-not e = rw (drop-cons l i 0 h) (rw (ne_eqb (l ⟨ i ⟩) 0 e) refl)
-
-  pub zero-next : l ⟨ i ⟩ ≡ 0 → all_zero (drop i l) ≡ all_zero (drop (i + 1) l)
-  unfolding all_zero
-  zero-next e = rw (drop-cons l i 0 h) (rw (eq-eqb (l ⟨ i ⟩) 0 e, add-one) refl)
+-- zeros: the library's name for the test of each, and the definition's
+pub all_zero-is : (l : List ℕ) → list_all (λ x. eqb x 0) l ≡ all_zero l
+unfolding all_zero
+all_zero-is [] = refl
+all_zero-is (x ∷ l) = ap (λ (b : Bool). eqb x 0 && b) (all_zero-is l)
 
 zeros-first : (x : ℕ) (l : List ℕ) → all_zero (x ∷ l) ≡ true → x ≡ 0
 unfolding all_zero
@@ -158,20 +151,6 @@ unused-8 k t e =
   where
     r : all_zero (k ⟨ 3 ⟩ ∷ t ⟨ 1 ⟩ ∷ []) ≡ true
     r = zeros-rest (k ⟨ 2 ⟩) (k ⟨ 3 ⟩ ∷ t ⟨ 1 ⟩ ∷ []) e
-
--- the same, as the code spells them
-module _ (w : ℕ) (k t : List ℕ) where
-  pub unused-at-4 : w ≡ 4 → all_zero (k ⟨ 1 ⟩ ∷ k ⟨ 2 ⟩ ∷ k ⟨ 3 ⟩ ∷ t ⟨ 0 ⟩ / 2 ^ 32 ∷ t ⟨ 1 ⟩ ∷ []) ≡ all_zero (unused w k t)
-  unfolding unused
-  unused-at-4 e = rw e refl
-
-  pub unused-at-8 : w ≡ 8 → all_zero (k ⟨ 2 ⟩ ∷ k ⟨ 3 ⟩ ∷ t ⟨ 1 ⟩ ∷ []) ≡ all_zero (unused w k t)
-  unfolding unused
-  unused-at-8 e = rw e refl
-
-  pub unused-none : (w ≡ 4 → ⊥) → (w ≡ 8 → ⊥) → true ≡ all_zero (unused w k t)
-  unfolding unused all_zero
-  unused-none not4 not8 = rw (ne_eqb w 4 not4, ne_eqb w 8 not8) refl
 
 -- the words of a width, its unused parts zero, are those of the numbers in them
 module _ (w : ℕ) (k t : List ℕ) (keys : length k ≡ 4) (tags : length t ≡ 2) (k-small : (i : ℕ) → k ⟨ i ⟩ < 2 ^ 64)

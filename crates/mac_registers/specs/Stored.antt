@@ -1,16 +1,20 @@
 -- How the struct of the code holds a tag in the making, at a width of 4, 8 or 16 bytes: the reading and the way back.
 use Rattle.std.specs.Prelude.{List, [], ◌∷◌, ◌++◌, ℕ, ◌+◌, ◌-◌, ◌*◌, ◌/◌, ◌%◌, ◌^◌, eqb, length, replicate, take, if◌then◌else◌}
 use Rattle.standard.specs.Notation.{◌⟨◌⟩}
-use Rattle.standard.specs.States.{Stored}
+use Rattle.standard.specs.States.{Held, Stored}
+use Rattle.zuc.specs.declared.Zuc.{Zuc}
 use Rattle.zuc.specs.Reading.{held_of}
 use Rattle.mac_registers.specs.Tagging.{Tagging}
-use Rattle.mac_registers.specs.declared.TagState.{TagState}
+use Rattle.mac_registers.specs.declared.TagOn.{TagOn}
 
 infixl 50 ◌‖₆₄◌
 infixl 50 ◌‖₁₂₈◌
 -- the struct's fields, its generator read as what it means and its index
-abbrev pub stored_of : TagState → Stored
-stored_of s = record { generator = held_of s.g; key = s.key; tag = s.tag; rem = s.rem; cnt = s.cnt; width = s.width }
+abbrev pub stored_by : {G : Type 0} → (G → Held) → TagOn G → Stored
+stored_by held s = record { generator = held s.g; key = s.key; tag = s.tag; rem = s.rem; cnt = s.cnt; width = s.width }
+
+abbrev pub stored_of : TagOn Zuc → Stored
+stored_of s = stored_by held_of s
 
 -- concatenation a || b, by the width of b
 abbrev pub ◌‖₆₄◌ : ℕ → ℕ → ℕ

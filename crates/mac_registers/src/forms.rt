@@ -1,5 +1,5 @@
 // Well-formed states, and the state of zeros.
-ghost use Rattle.std.specs.Prelude.{drop, true, ◌≡◌};
+ghost use Rattle.std.specs.Prelude.{drop, length, true, ◌≡◌, ◌≤◌};
 ghost use Prim.Native.Nat.{};
 ghost use Rattle.standard.specs.Integrity.{is_width};
 ghost use Rattle.mac_registers.specs.Stored.{stored_of};
@@ -11,80 +11,48 @@ use zuc::Zuc;
 fn is_width(width: usize) -> bool
     ensures { result ≡ is_width width }
 {
-    match width {
-        4 | 8 | 16 => true,
-        _ => false,
-    }
+    matches!(width, 4 | 8 | 16)
 }
 
 fn all_zero(words: &[u64]) -> bool
     ensures { result ≡ all_zero words.now }
 {
-    let mut i: usize = 0;
-    while i < words.len() {
-        if words[i] != 0 {
-            return false;
-        }
-        i += 1;
-    }
-    true
+    words.iter().all(|w| *w == 0)
 }
 
 // Whether the bytes from one on are zero.
-fn zero_from(rem: [u8; 16], from: usize) -> bool
-    ensures { result ≡ all_zero (drop from rem) }
+fn zero_from(rem: &[u8], from: usize) -> bool
+    requires { from ≤ length rem.now }
+    ensures { result ≡ all_zero (drop from rem.now) }
 {
-    let mut i = from;
-    while i < 16 {
-        if rem[i] != 0 {
-            return false;
-        }
-        i += 1;
-    }
-    true
+    rem[from..].iter().all(|b| *b == 0)
 }
 
+#[tactic(auto, unfolding(standard::specs::States::unused, standard::specs::States::all_zero))]
 fn unused_zero(width: usize, key: [u64; 4], tag: [u64; 2]) -> bool
     ensures { result ≡ all_zero (unused width key tag) }
 {
     match width {
-        4 => {
-            let parts = [key[1], key[2], key[3], tag[0] >> 32, tag[1]];
-            all_zero(&parts)
-        }
-        8 => {
-            let parts = [key[2], key[3], tag[1]];
-            all_zero(&parts)
-        }
+        4 => all_zero(&[key[1], key[2], key[3], tag[0] >> 32, tag[1]]),
+        8 => all_zero(&[key[2], key[3], tag[1]]),
         _ => true,
     }
 }
 
 // Whether a state is well formed; then it holds what the inner functions ask.
+#[tactic(auto, unfolding(standard::specs::States::formed))]
 pub fn is_formed(s: super::TagState) -> bool
-    ensures { (result ≡ formed (stored_of s)) × (result ≡ true → Holds (stored_of s)) }
+    ensures formed { result ≡ formed (stored_of s) }
+    ensures holds { result ≡ true → Holds (stored_of s) }
 {
-    let g = s.g;
-    let key = s.key;
-    let tag = s.tag;
-    let rem = s.rem;
-    let width = s.width;
-    let cnt = s.cnt;
-    if !zuc::is_well_formed(g) {
-        return false;
-    }
-    if !is_width(width) {
-        return false;
-    }
-    if !unused_zero(width, key, tag) {
-        return false;
-    }
-    if width <= cnt {
-        return false;
-    }
-    zero_from(rem, cnt)
+    zuc::is_well_formed(s.g)
+        && is_width(s.width)
+        && unused_zero(s.width, s.key, s.tag)
+        && s.cnt < s.width
+        && zero_from(&s.rem, s.cnt)
 }
 
+#[tactic(auto, unfolding(standard::specs::States::zero_stored, standard::specs::States::zeros, zuc::specs::Reading::cells_from))]
 pub fn zero_state() -> super::TagState
     ensures { stored_of result ≡ zero_stored }
 {

@@ -3,28 +3,32 @@
 
 ghost use Rattle.std.specs.Prelude.{length, ◌≡◌, ◌+◌, ◌*◌, ◌/◌, ◌%◌, ◌^◌, ◌≤◌, ◌<◌};
 ghost use Rattle.standard.specs.Bits.{M, bit_of, window};
+ghost use Rattle.standard.specs.Generator.{word_at};
 ghost use Rattle.standard.specs.Integrity.{T};
-ghost use Rattle.standard.specs.Notation.{◌⊕◌};
+ghost use Rattle.standard.proofs.Held.{Ready};
+ghost use Rattle.standard.specs.Notation.{listed, ◌⊕◌};
+ghost use Rattle.standard.specs.States.{moved};
 ghost use Rattle.zuc_turn.specs.InnerRun.{Low};
+ghost use Rattle.zuc.specs.Reading.{held_of};
 ghost use Rattle.mac_registers.specs.Stored.{key_of, key_words, stored_of, tag_of, tag_words};
 ghost use Rattle.mac_registers.specs.Inner.{Holds, Width, bits_of};
-ghost use Rattle.mac_registers.specs.InnerOpen.{Stands, stored_at};
+ghost use Rattle.mac_registers.specs.InnerOpen.{AtRest, Stands, held_on, stored_at};
 
 use mac_wide::{sum_64, sum_128};
 use sums::{joined, sum_32};
 use words::word_of;
 use zuc::Zuc;
-use zuc_bulk::{lay_state, state_of};
-use zuc_turn::Halves;
+use zuc_bulk::{index_after, lay_state, state_of, words_on};
+use zuc_turn::{Halves, Run};
 
 pub mod forms;
 pub mod sums;
 
-// The generator, the key pair and the tag in 64-bit words (as many as the width asks, the others zero), the bytes that wait for a
-// block with zeros after them, their count, and the tag's width in bytes.
+// A tag in the making beside its generator: the key pair and the tag in 64-bit words (as many as the width asks, the others zero), the
+// bytes that wait for a block with zeros after them, their count, and the tag's width in bytes.
 #[derive(Clone, Copy, Default)]
-pub struct TagState {
-    pub g: Zuc,
+pub struct TagOn<G> {
+    pub g: G,
     pub key: [u64; 4],
     pub tag: [u64; 2],
     pub rem: [u8; 16],
@@ -32,16 +36,90 @@ pub struct TagState {
     pub width: usize,
 }
 
-// A tag in the making inside a call: as a TagState, but that its generator stands on a lent run, with the registers in halves.
+// A generator that stands on a lent run: its registers in halves, and the index at which its cells will start.
 #[derive(Clone, Copy)]
-pub struct Open {
+pub struct OnRun {
     pub h: Halves,
     pub start: usize,
-    pub key: [u64; 4],
-    pub tag: [u64; 2],
-    pub rem: [u8; 16],
-    pub cnt: usize,
-    pub width: usize,
+}
+
+impl OnRun {
+    // A generator with its cells laid on a run, once a call.
+    pub fn new(g: Zuc, run: &mut Run) -> OnRun
+        requires { Ready (held_of g) }
+        ensures rest { AtRest run.new.cells run.new.pairs result.h }
+        ensures held { held_on run.new.cells result ≡ held_of g }
+    {
+        let h = lay_state(g, &mut run.cells, &mut run.pairs);
+        OnRun { h, start: g.start }
+    }
+
+    // As many words as the buffer holds, and the generator after them.
+    pub fn draw(self, run: &mut Run, out: &mut [u32]) -> OnRun
+        requires rest { AtRest run.old.cells run.old.pairs self.h }
+        requires start_fits { self.start < 16 }
+        ensures rest { AtRest run.new.cells run.new.pairs result.h }
+        ensures held { held_on run.new.cells result ≡ moved (length out.old) (held_on run.old.cells self) }
+        ensures words { out.new ≡ listed (word_at (held_on run.old.cells self).meaning) 0 (length out.old) }
+    {
+        let n = out.len();
+        let h = words_on(run, self.h, out);
+        OnRun {
+            h,
+            start: index_after(self.start, n),
+        }
+    }
+}
+
+// Between calls.
+pub type TagState = TagOn<Zuc>;
+
+// Inside a call.
+pub type Open = TagOn<OnRun>;
+
+impl<G: Copy> TagOn<G> {
+    // The same tag beside another generator.
+    fn beside<H>(self, g: H) -> TagOn<H>
+        ensures { result ≡ record { g = g; key = self.key; tag = self.tag; rem = self.rem; cnt = self.cnt; width = self.width } }
+    {
+        let TagOn {
+            key,
+            tag,
+            rem,
+            cnt,
+            width,
+            ..
+        } = self;
+        TagOn {
+            g,
+            key,
+            tag,
+            rem,
+            cnt,
+            width,
+        }
+    }
+}
+
+impl TagState {
+    // The state with its generator on a run.
+    pub fn lay(self, run: &mut Run) -> Open
+        requires { Holds (stored_of self) }
+        ensures { Stands run.new.cells run.new.pairs result (stored_of self) }
+    {
+        self.beside(OnRun::new(self.g, run))
+    }
+}
+
+impl Open {
+    // The state, with its cells taken back from the run.
+    pub fn taken(self, run: &Run) -> TagState
+        requires halves { Low self.g.h }
+        requires start_fits { self.g.start < 16 }
+        ensures { stored_of result ≡ stored_at run.now.cells self }
+    {
+        self.beside(state_of(&run.cells, self.g.h, self.g.start))
+    }
 }
 
 // What is open, and the place in the message up to which it has taken the bytes in.
@@ -49,50 +127,6 @@ pub struct Open {
 pub struct Moved {
     pub o: Open,
     pub at: usize,
-}
-
-// A state with its cells laid on a run, once a call.
-pub fn lay(s: TagState, run: &mut [u32], pairs: &mut [u32]) -> Open
-    requires room { (length run.old ≡ 80) × (length pairs.old ≡ 80) }
-    requires holds { Holds (stored_of s) }
-    ensures { Stands run.new pairs.new result (stored_of s) }
-{
-    let g = s.g;
-    let key = s.key;
-    let tag = s.tag;
-    let rem = s.rem;
-    let h = lay_state(g, run, pairs);
-    Open {
-        h,
-        start: g.start,
-        key,
-        tag,
-        rem,
-        cnt: s.cnt,
-        width: s.width,
-    }
-}
-
-// The state, with its cells taken back from the run.
-pub fn taken(run: &[u32], o: Open) -> TagState
-    requires room { 16 ≤ length run.now }
-    requires halves { Low o.h }
-    requires start_fits { o.start < 16 }
-    ensures { stored_of result ≡ stored_at run.now o }
-{
-    let h = o.h;
-    let key = o.key;
-    let tag = o.tag;
-    let rem = o.rem;
-    let g = state_of(run, h, o.start);
-    TagState {
-        g,
-        key,
-        tag,
-        rem,
-        cnt: o.cnt,
-        width: o.width,
-    }
 }
 
 // Four bytes of a block as one word, highest first.

@@ -10,10 +10,9 @@ ghost use Rattle.mac_registers.specs.Inner.{Holds, Width};
 ghost use Rattle.mac_registers.specs.Tagging.{begun-EIA3, begun-ZUC256, closed-EIA3, closed-ZUC256, updated};
 
 use super::closing::{close_128, close_256};
-use super::updates::{begin_128, begin_256, behind};
-use mac_registers::{TagState, lay, taken};
+use super::updates::{begin_128, begin_256, wait};
+use mac_registers::{OnRun, TagState};
 use zuc::{Loaded, Zuc};
-use zuc_bulk::lay_state;
 use zuc_turn::Run;
 
 pub fn start_128(g: Zuc) -> TagState
@@ -21,9 +20,9 @@ pub fn start_128(g: Zuc) -> TagState
     ensures { stored_of result ≡ packed 4 (begun-EIA3 (held_of g)) }
 {
     let mut run = Run::new();
-    let h = lay_state(g, &mut run.cells, &mut run.pairs);
-    let o = begin_128(&mut run, h, g.start);
-    taken(&run.cells, o)
+    let start = OnRun::new(g, &mut run);
+    let o = begin_128(&mut run, start);
+    o.taken(&run)
 }
 
 pub fn start_256(width: usize, g: Zuc) -> TagState
@@ -32,44 +31,23 @@ pub fn start_256(width: usize, g: Zuc) -> TagState
     ensures { stored_of result ≡ packed width (begun-ZUC256 (width * 8) (held_of g)) }
 {
     let mut run = Run::new();
-    let h = lay_state(g, &mut run.cells, &mut run.pairs);
-    let o = begin_256(&mut run, h, g.start, width);
-    taken(&run.cells, o)
+    let start = OnRun::new(g, &mut run);
+    let o = begin_256(&mut run, start, width);
+    o.taken(&run)
 }
 
-// An update whose bytes all wait: no cell is laid.
-fn put_by(s: TagState, message: &[u8]) -> TagState
-    requires holds { Holds (stored_of s) }
-    requires fits { s.cnt + length message.now < s.width }
-    ensures { stored_of result ≡ packed s.width (updated (s.width * 8) (tagging_of (stored_of s)) message.now) }
-{
-    let g = s.g;
-    let key = s.key;
-    let tag = s.tag;
-    let waiting = s.rem;
-    let cnt = s.cnt;
-    let rem = behind(waiting, cnt, message);
-    TagState {
-        g,
-        key,
-        tag,
-        rem,
-        cnt: cnt + message.len(),
-        width: s.width,
-    }
-}
-
+// Where all bytes wait no cell is laid.
 pub fn update(s: TagState, message: &[u8]) -> TagState
     requires { Holds (stored_of s) }
     ensures { stored_of result ≡ packed s.width (updated (s.width * 8) (tagging_of (stored_of s)) message.now) }
 {
     if message.len() < s.width - s.cnt {
-        return put_by(s, message);
+        return wait(s, message);
     }
     let mut run = Run::new();
-    let o = lay(s, &mut run.cells, &mut run.pairs);
+    let o = s.lay(&mut run);
     let e = super::updates::update(&mut run, o, message);
-    taken(&run.cells, e)
+    e.taken(&run)
 }
 
 pub fn finish_128(s: TagState, tail: &[u8], l: usize) -> u32
@@ -79,7 +57,7 @@ pub fn finish_128(s: TagState, tail: &[u8], l: usize) -> u32
     ensures { result ≡ closed-EIA3 (tagging_of (stored_of s)) tail.now l }
 {
     let mut run = Run::new();
-    let o = lay(s, &mut run.cells, &mut run.pairs);
+    let o = s.lay(&mut run);
     close_128(&mut run, o, tail, l)
 }
 
@@ -89,7 +67,7 @@ pub fn finish_256(s: TagState, tail: &[u8], l: usize) -> [u64; 2]
     ensures { result ≡ tag_words s.width (closed-ZUC256 (s.width * 8) (tagging_of (stored_of s)) tail.now l) }
 {
     let mut run = Run::new();
-    let o = lay(s, &mut run.cells, &mut run.pairs);
+    let o = s.lay(&mut run);
     close_256(&mut run, o, tail, l)
 }
 
@@ -101,7 +79,7 @@ pub fn once_128(loaded: Loaded, message: &[u8], l: usize) -> u32
 {
     let mut run = Run::new();
     let h = zuc_bulk::startup::begin(loaded, &mut run);
-    let o = begin_128(&mut run, h, 0);
+    let o = begin_128(&mut run, OnRun { h, start: 0 });
     close_128(&mut run, o, message, l)
 }
 
@@ -113,7 +91,7 @@ pub fn once_256(width: usize, g: Zuc, message: &[u8], l: usize) -> [u64; 2]
     ensures { result ≡ tag_words width (closed-ZUC256 (width * 8) (begun-ZUC256 (width * 8) (held_of g)) message.now l) }
 {
     let mut run = Run::new();
-    let h = lay_state(g, &mut run.cells, &mut run.pairs);
-    let o = begin_256(&mut run, h, g.start, width);
+    let start = OnRun::new(g, &mut run);
+    let o = begin_256(&mut run, start, width);
     close_256(&mut run, o, message, l)
 }

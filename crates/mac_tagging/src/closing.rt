@@ -8,7 +8,6 @@ ghost use Rattle.mac_tagging.specs.InnerSteps.{Closes};
 
 use super::updates::update;
 use mac_registers::{Open, tag_with};
-use zuc_bulk::words_on;
 use zuc_turn::Run;
 
 // A byte's r high bits, a set bit after them, and zeros.
@@ -39,11 +38,8 @@ fn last_tag(o: Open, tail: &[u8], q: usize, r: usize) -> [u64; 2]
     requires bits_fit { (r < 8) × (q * 8 + r ≤ length tail.now * 8) }
     ensures { Closes o (drop q tail.now) r result }
 {
-    let waiting = o.rem;
-    let key = o.key;
-    let tag = o.tag;
-    let block = last_block(waiting, o.cnt, tail, q, r);
-    tag_with(o.width, key, tag, &block)
+    let block = last_block(o.rem, o.cnt, tail, q, r);
+    tag_with(o.width, o.key, o.tag, &block)
 }
 
 // The closing of a ZUC-256 tag by l bits of a tail.
@@ -63,13 +59,11 @@ fn extra(run: &mut Run, o: Open, n: usize) -> u32
     requires width_is { o.width ≡ 4 }
     ensures { result ≡ extra_word (tagging_of (stored_at run.old.cells o)) n }
 {
-    let key = o.key;
-    let h = o.h;
     if n == 0 {
-        return (key[0] % 0x1_0000_0000) as u32;
+        return (o.key[0] % 0x1_0000_0000) as u32;
     }
     let mut word = [0u32; 1];
-    words_on(run, h, &mut word);
+    o.g.draw(run, &mut word);
     word[0]
 }
 

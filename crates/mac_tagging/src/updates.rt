@@ -10,22 +10,20 @@ ghost use Rattle.mac_tagging.specs.InnerSteps.{Topped, Waits};
 
 use mac_blocks::blocks;
 use mac_narrow::blocks_32;
-use mac_registers::{Moved, Open, fresh_at, key_at};
-use zuc_bulk::{index_after, words_on};
-use zuc_turn::{Halves, Run};
+use mac_registers::{Moved, OnRun, Open, TagOn, fresh_at, key_at};
+use zuc_turn::Run;
 
 // No tag yet, and a key pair of the first words.
-pub fn begin_128(run: &mut Run, h: Halves, start: usize) -> Open
-    requires at_rest { AtRest run.old.cells run.old.pairs h }
-    requires start_fits { start < 16 }
-    ensures { Stands run.new.cells run.new.pairs result (packed 4 (begun-EIA3 (held_on run.old.cells h start))) }
+pub fn begin_128(run: &mut Run, start: OnRun) -> Open
+    requires at_rest { AtRest run.old.cells run.old.pairs start.h }
+    requires start_fits { start.start < 16 }
+    ensures { Stands run.new.cells run.new.pairs result (packed 4 (begun-EIA3 (held_on run.old.cells start))) }
 {
     let mut words = [0u32; 2];
-    let next = words_on(run, h, &mut words);
+    let g = start.draw(run, &mut words);
     let key = key_at(4, &words, 0);
     Open {
-        h: next,
-        start: index_after(start, 2),
+        g,
         key,
         tag: [0u64; 2],
         rem: [0u8; 16],
@@ -35,20 +33,19 @@ pub fn begin_128(run: &mut Run, h: Halves, start: usize) -> Open
 }
 
 // The first words as the tag, and a key pair of those after them: all are drawn at once.
-pub fn begin_256(run: &mut Run, h: Halves, start: usize, width: usize) -> Open
-    requires at_rest { AtRest run.old.cells run.old.pairs h }
-    requires start_fits { start < 16 }
+pub fn begin_256(run: &mut Run, start: OnRun, width: usize) -> Open
+    requires at_rest { AtRest run.old.cells run.old.pairs start.h }
+    requires start_fits { start.start < 16 }
     requires width_fits { Width width }
-    ensures { Stands run.new.cells run.new.pairs result (packed width (begun-ZUC256 (width * 8) (held_on run.old.cells h start))) }
+    ensures { Stands run.new.cells run.new.pairs result (packed width (begun-ZUC256 (width * 8) (held_on run.old.cells start))) }
 {
     let n = width / 4 * 3;
     let mut words = [0u32; 12];
-    let next = words_on(run, h, &mut words[..n]);
+    let g = start.draw(run, &mut words[..n]);
     let tag = fresh_at(width, &words, 0);
     let key = key_at(width, &words, width / 4);
     Open {
-        h: next,
-        start: index_after(start, n),
+        g,
         key,
         tag,
         rem: [0u8; 16],
@@ -68,34 +65,24 @@ pub fn behind(waiting: [u8; 16], cnt: usize, bytes: &[u8]) -> [u8; 16]
 }
 
 // Bytes that complete no block: they wait, and no word is drawn.
-fn wait(o: Open, bytes: &[u8]) -> Open
-    requires { (o.cnt + length bytes.now < o.width) × Width o.width }
-    ensures { Waits o bytes.now result }
+pub fn wait<G: Copy>(s: TagOn<G>, bytes: &[u8]) -> TagOn<G>
+    requires { (s.cnt + length bytes.now < s.width) × Width s.width }
+    ensures { Waits s bytes.now result }
 {
-    let h = o.h;
-    let key = o.key;
-    let tag = o.tag;
-    let waiting = o.rem;
-    let cnt = o.cnt;
-    let rem = behind(waiting, cnt, bytes);
-    Open {
-        h,
-        start: o.start,
-        key,
-        tag,
+    let rem = behind(s.rem, s.cnt, bytes);
+    TagOn {
         rem,
-        cnt: cnt + bytes.len(),
-        width: o.width,
+        cnt: s.cnt + bytes.len(),
+        ..s
     }
 }
 
 // Whole blocks, as many as there are, where nothing waits.
 fn whole(run: &mut Run, o: Open, message: &[u8], from: usize) -> Moved
     requires { (Opened run.old.cells run.old.pairs o) × ((o.cnt ≡ 0) × (from ≤ length message.now)) }
-    ensures { AtRest run.new.cells run.new.pairs result.o.h × Blocks (stored_at run.old.cells o) message.now from (stored_at run.new.cells result.o) result.at }
+    ensures { AtRest run.new.cells run.new.pairs result.o.g.h × Blocks (stored_at run.old.cells o) message.now from (stored_at run.new.cells result.o) result.at }
 {
-    let width = o.width;
-    if width == 4 {
+    if o.width == 4 {
         return blocks_32(run, o, message, from);
     }
     blocks(run, o, message, from)
@@ -107,22 +94,13 @@ fn complete(run: &mut Run, o: Open, bytes: &[u8]) -> Open
     requires fills { o.cnt + length bytes.now ≡ o.width }
     ensures { Stands run.new.cells run.new.pairs result (packed o.width (updated (o.width * 8) (tagging_of (stored_at run.old.cells o)) bytes.now)) × (result.cnt ≡ 0) }
 {
-    let h = o.h;
-    let key = o.key;
-    let tag = o.tag;
-    let waiting = o.rem;
-    let width = o.width;
-    let full = behind(waiting, o.cnt, bytes);
+    let full = behind(o.rem, o.cnt, bytes);
     let empty = Open {
-        h,
-        start: o.start,
-        key,
-        tag,
         rem: [0u8; 16],
         cnt: 0,
-        width,
+        ..o
     };
-    let r = whole(run, empty, &full[..width], 0);
+    let r = whole(run, empty, &full[..o.width], 0);
     r.o
 }
 
@@ -132,11 +110,10 @@ fn top_up(run: &mut Run, o: Open, message: &[u8]) -> Moved
     requires fills { o.width ≤ o.cnt + length message.now }
     ensures { Topped run.old.cells o message.now run.new.cells run.new.pairs result }
 {
-    let cnt = o.cnt;
-    if cnt == 0 {
+    if o.cnt == 0 {
         return Moved { o, at: 0 };
     }
-    let at = o.width - cnt;
+    let at = o.width - o.cnt;
     let next = complete(run, o, &message[..at]);
     Moved { o: next, at }
 }
@@ -150,9 +127,6 @@ pub fn update(run: &mut Run, o: Open, message: &[u8]) -> Open
         return wait(o, message);
     }
     let topped = top_up(run, o, message);
-    let first = topped.o;
-    let fed = whole(run, first, message, topped.at);
-    let last = fed.o;
-    let at = fed.at;
-    wait(last, &message[at..])
+    let fed = whole(run, topped.o, message, topped.at);
+    wait(fed.o, &message[fed.at..])
 }

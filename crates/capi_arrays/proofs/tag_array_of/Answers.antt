@@ -15,11 +15,12 @@ use Rattle.standard.specs.Notation.{◌⟨◌⟩, listed}
 use Rattle.zuc.proofs.Turning.{length_from}
 use Rattle.zuc.specs.Reading.{cells_from}
 use borrow.Author.Rules.{rules}
-use Rattle.mac_registers.specs.declared.TagState.{TagState}
+use Rattle.mac_registers.specs.declared.TagOn.{TagOn}
+use Rattle.zuc.specs.declared.Zuc.{Zuc}
 use Rattle.capi_arrays.proofs.tag_array_of.Goals as goal
 
 -- what the struct's types keep of its places, its words and its bytes
-fit : (s : TagState) → length s.g.s ≡ 16 → length s.key ≡ 4 → length s.tag ≡ 2 → length s.rem ≡ 16
+fit : (s : TagOn Zuc) → length s.g.s ≡ 16 → length s.key ≡ 4 → length s.tag ≡ 2 → length s.rem ≡ 16
     → ((k : ℕ) → Fits w32 (s.g.s ⟨ k ⟩)) → ((k : ℕ) → Fits w8 (s.rem ⟨ k ⟩)) → s.g.r1 < 2 ^ 32 → s.g.r2 < 2 ^ 32 → Fit (stored_of s)
 unfolding cells_from
 fit s places keys tags rems cell_fits byte_fits r1 r2 =

@@ -7,8 +7,8 @@ use Rattle.mac.proofs.is_formed_256.Goals as goal
 
 pub returns-then-is_formed-clause-formed : goal.returns-then-is_formed-clause-formed
 unfolding tag_formed
-returns-then-is_formed-clause-formed c = ap (λ (b : Bool). b && leb c.args.count limit) c.if-is_formed.ensures.0
+returns-then-is_formed-clause-formed c = ap (λ (b : Bool). b && leb c.args.count limit) c.if-is_formed.ensures.formed
 
 pub returns-else-is_formed-clause-formed : goal.returns-else-is_formed-clause-formed
 unfolding tag_formed
-returns-else-is_formed-clause-formed c = c.if-is_formed.false ∙ ap (λ (b : Bool). b && leb c.args.count limit) c.if-is_formed.ensures.0
+returns-else-is_formed-clause-formed c = c.if-is_formed.false ∙ ap (λ (b : Bool). b && leb c.args.count limit) c.if-is_formed.ensures.formed

@@ -13,7 +13,7 @@ use Rattle.standard.specs.States.{Stored}
 use Rattle.mac_registers.specs.Tagging.{updated}
 use Rattle.mac_registers.proofs.Cutting.{updated-from}
 use Rattle.mac_registers.proofs.Packed.{at_packed, good-updated}
-use Rattle.mac_registers.proofs.OnRun.{opened-as}
+use Rattle.mac_registers.proofs.AtRest.{opened-as}
 use Rattle.mac_blocks.proofs.blocks.Goals as goal
 
 -- where whole blocks end: so many from a place on, and no block more behind it

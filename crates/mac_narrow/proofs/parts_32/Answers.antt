@@ -1,5 +1,5 @@
 -- `parts_32` takes in part by part: at place i the run and what the loop carries stand for the state after the bytes up to i.
-use lib.ListN.{drop, length, take}
+use lib.ListN.{drop, take}
 use lib.Seq.{take_all}
 use mathlib.Core.List.{List}
 use mathlib.Core.Path.{◌≡◌, refl, ◌∙◌, ap}

@@ -35,8 +35,8 @@ pub loop-j-preserved : goal.loop-j-preserved
 loop-j-preserved c =
     let l = c.loop-j in
     let a = c.args in
-    let σ : State = state_at a.run.now.cells 0 a.start.h in
-    let k : Held = at a.run.now.cells a.start.h a.start in
+    let σ : State = state_at a.run.now.cells 0 a.start.g.h in
+    let k : Held = at a.run.now.cells a.start.g.h a.start in
     let st : Tagging = idle k a.start.key a.start.tag in
     let turned = c.turn-t.ensures in (
       omega (arith, c.loop-j-test.true),
@@ -53,8 +53,8 @@ pub returns : goal.returns
 returns c =
     let l = c.loop-j in
     let a = c.args in
-    let σ : State = state_at a.run.now.cells 0 a.start.h in
-    let k : Held = at a.run.now.cells a.start.h a.start in
+    let σ : State = state_at a.run.now.cells 0 a.start.g.h in
+    let k : Held = at a.run.now.cells a.start.g.h a.start in
     let n : ℕ = length a.part.now / 4 in
     let end : l.j ≡ n = omega (arith, l.invariant.0) in
     let standing = c.rest.ensures l.h (after n σ) (subst (λ (j : ℕ). Standing l.run.cells l.run.pairs j l.h (after j σ)) end l.invariant.3) in

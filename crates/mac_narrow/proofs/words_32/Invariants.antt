@@ -14,7 +14,7 @@ use Rattle.mac_narrow.proofs.words_32.Given as goal
 
 -- what the run and the registers stand for at the loop's begin, with the index
 abbrev pub at : List ℕ → Halves → Narrow → Held
-at run h s = record { meaning = state_at run 0 h; start = s.start }
+at run h s = record { meaning = state_at run 0 h; start = s.g.start }
 
 abbrev pub invariant-loop-j : goal.invariant-loop-j
 invariant-loop-j l =

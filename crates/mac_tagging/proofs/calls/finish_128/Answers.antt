@@ -3,7 +3,7 @@ use mathlib.Core.Path.{ap, ◌∙◌}
 use Rattle.standard.specs.States.{Stored}
 use Rattle.mac_registers.specs.Stored.{tagging_of}
 use Rattle.mac_registers.specs.Tagging.{closed-EIA3}
-use Rattle.mac_registers.proofs.OnRun.{opened}
+use Rattle.mac_registers.proofs.AtRest.{opened}
 use Rattle.mac_tagging.proofs.calls.finish_128.Goals as goal
 
 pub close_128-requires : goal.close_128-requires

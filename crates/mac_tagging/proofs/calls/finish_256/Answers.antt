@@ -4,7 +4,7 @@ use Prim.Native.Nat.{◌*◌}
 use Rattle.standard.specs.States.{Stored}
 use Rattle.mac_registers.specs.Stored.{tag_words, tagging_of}
 use Rattle.mac_registers.specs.Tagging.{closed-ZUC256}
-use Rattle.mac_registers.proofs.OnRun.{opened}
+use Rattle.mac_registers.proofs.AtRest.{opened}
 use Rattle.mac_tagging.proofs.calls.finish_256.Goals as goal
 
 pub close_256-requires : goal.close_256-requires

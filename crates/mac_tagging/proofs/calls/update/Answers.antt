@@ -3,9 +3,10 @@ use mathlib.Core.Path.{ap, ◌∙◌}
 use native.Mathlib.Omega.{arith}
 use Rattle.standard.specs.States.{Stored}
 use Prim.Native.Nat.{◌*◌}
+use Rattle.zuc.specs.Reading.{held_of}
 use Rattle.mac_registers.specs.Stored.{packed, stored_of, tagging_of}
 use Rattle.mac_registers.specs.Tagging.{updated}
-use Rattle.mac_registers.proofs.OnRun.{opened, opened-as}
+use Rattle.mac_registers.proofs.AtRest.{opened, opened-as}
 use Rattle.mac_registers.proofs.Packed.{good-updated}
 use Rattle.mac_blocks.proofs.Moves.{cnt-lt}
 use Rattle.mac_tagging.proofs.Laid.{goes_back}
@@ -15,6 +16,9 @@ pub overflow_sub-s : goal.overflow_sub-s
 overflow_sub-s c =
     omega (arith, cnt-lt (stored_of c.args.s) c.requires)
 
+pub returns-then-message-s : goal.returns-then-message-s
+returns-then-message-s c = c.wait.ensures.stored held_of c.requires
+
 pub update-e-requires : goal.update-e-requires
 update-e-requires c =
     opened c.lay-o.ensures c.requires
@@ -23,7 +27,7 @@ pub taken-requires : goal.taken-requires
 taken-requires c =
     let laid = c.lay-o.ensures in
     let back = goes_back (opened-as c.update-e.ensures (good-updated _ (opened laid c.requires).holds.good)) in
-    record { room = back.0; halves = back.1.0; start_fits = back.1.1 }
+    record { halves = back.0; start_fits = back.1 }
 
 pub returns : goal.returns
 returns c =

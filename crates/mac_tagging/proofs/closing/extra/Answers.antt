@@ -17,8 +17,12 @@ unfolding extra_word tagging_of key_of
 returns-then-n-eq0 c =
     rw (eq-eqb c.args.n 0 c.if-n-eq0.true, c.requires.width_is) refl
 
+pub draw-requires-clause-start_fits : goal.draw-requires-clause-start_fits
+unfolding tagging_of
+draw-requires-clause-start_fits c = c.requires.opened.holds.good.sound.start
+
 pub returns : goal.returns
 unfolding extra_word tagging_of word_at
 returns c =
     rw (ne_eqb c.args.n 0 c.if-n-eq0.false)
-    (ap (λ (l : List ℕ). get_or l 0 0) c.words_on.ensures.words ∙ get_or-listed _ 0 1 0 (omega arith) ∙ ap word (after_none _))
+    (ap (λ (l : List ℕ). get_or l 0 0) c.draw.ensures.words ∙ get_or-listed _ 0 1 0 (omega arith) ∙ ap word (after_none _))

@@ -9,11 +9,11 @@ use Rattle.mac_registers.specs.Tagging.{updated}
 use Rattle.mac_blocks.proofs.Moves.{cnt-lt}
 use Rattle.mac_tagging.proofs.updates.top_up.Goals as goal
 
-pub returns-then-cnt-eq0 : goal.returns-then-cnt-eq0
+pub returns-then-o-eq0 : goal.returns-then-o-eq0
 unfolding updated
-returns-then-cnt-eq0 c =
+returns-then-o-eq0 c =
     let opened = c.requires.opened in
-    record { within = omega arith; none = c.if-cnt-eq0.true; stands = record { rest = opened.rest; stored = sym opened.holds.packs } }
+    record { within = omega arith; none = c.if-o-eq0.true; stands = record { rest = opened.rest; stored = sym opened.holds.packs } }
 
 pub overflow_sub-at : goal.overflow_sub-at
 overflow_sub-at c =

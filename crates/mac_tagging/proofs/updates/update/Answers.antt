@@ -6,12 +6,12 @@ use native.Mathlib.Omega.{arith}
 use lib.ListN.{drop, length, length-drop, take}
 use lib.Seq.{length-take-le, take_all}
 use Rattle.standard.specs.States.{Stored}
-use Rattle.zuc_turn.specs.declared.Halves.{Halves}
+use Rattle.mac_registers.specs.declared.OnRun.{OnRun}
 use Rattle.mac_registers.specs.Inner.{Width}
-use Rattle.mac_registers.specs.InnerOpen.{AtRest, stored_at}
+use Rattle.mac_registers.specs.InnerOpen.{AtRest, held_on, stored_at}
 use Rattle.mac_registers.specs.Stored.{packed, tagging_of}
 use Rattle.mac_registers.specs.Tagging.{updated}
-use Rattle.mac_registers.proofs.OnRun.{opened-as}
+use Rattle.mac_registers.proofs.AtRest.{opened-as}
 use Rattle.mac_registers.proofs.Packed.{good-updated, held-as}
 use Rattle.mac_blocks.proofs.Moves.{cnt-lt}
 use Rattle.mac_tagging.proofs.Bytes.{part-on}
@@ -28,8 +28,8 @@ returns-then-message-o c =
     let run = c.args.run.now.cells in
     let opened = c.requires in
     record {
-      rest = subst (λ (h : Halves). AtRest run c.args.run.now.pairs h) (sym c.wait.ensures.same) opened.rest;
-      stored = c.wait.ensures.stored run opened.holds;
+      rest = subst (λ (g : OnRun). AtRest run c.args.run.now.pairs g.h) (sym c.wait.ensures.same) opened.rest;
+      stored = c.wait.ensures.stored (held_on run) opened.holds;
     }
 
 pub whole-fed-requires : goal.whole-fed-requires
@@ -72,8 +72,8 @@ returns c =
     let good = c.requires.holds.good in
     let waits = c.wait-2.ensures in
     record {
-      rest = subst (λ (h : Halves). AtRest run c.whole-fed.new.run.pairs h) (sym waits.same) fed.0;
+      rest = subst (λ (g : OnRun). AtRest run c.whole-fed.new.run.pairs g.h) (sym waits.same) fed.0;
       stored =
-          part-on good m c.whole-fed.result.at (length m) fed.1.within so_far (waits.stored run (held-as so_far (good-updated _ good)))
+          part-on good m c.whole-fed.result.at (length m) fed.1.within so_far (waits.stored (held_on run) (held-as so_far (good-updated _ good)))
           ∙ ap (λ (l : List ℕ). packed w (updated (w * 8) (tagging_of (stored_at a.run.now.cells a.o)) l)) (take_all (length m) m (omega arith));
     }
