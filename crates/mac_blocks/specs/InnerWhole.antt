@@ -1,5 +1,5 @@
 -- Whole blocks in bulk: what is promised of the words drawn before they are used, and of the bytes taken at a time.
-use Rattle.std.specs.Prelude.{List, ◌≡◌, ℕ, ◌*◌, ◌/◌, ◌≤◌, length, replicate, take}
+use Rattle.std.specs.Prelude.{List, ◌≡◌, ℕ, ◌+◌, ◌*◌, ◌/◌, ◌<◌, ◌≤◌, length, replicate, take}
 use Rattle.standard.specs.Generator.{word_at}
 use Rattle.standard.specs.States.{Held, moved}
 use Rattle.standard.specs.Notation.{listed}
@@ -18,10 +18,9 @@ fed_by width key tag words part key' tag' =
     (σ : Held) → Holds (empty_of width σ key tag) → take (length part / 4) words ≡ listed (word_at σ.meaning) 0 (length part / 4)
     → empty_of width (moved (length part / 4) σ) key' tag' ≡ packed width (updated (width * 8) (tagging_of (empty_of width σ key tag)) part)
 
--- bytes of whole blocks, some where a block is left
-pub record Portion (width left r : ℕ) : Type 0 where
-  pub most : r ≤ 256
-  pub within : r ≤ left
-  pub some : width ≤ left → width ≤ r
+-- the end of the whole blocks from a place on: less than a block is left
+pub record Whole (width len from at : ℕ) : Type 0 where
+  pub within : at ≤ len
+  pub all : len < at + width
   pub count : ℕ
-  pub whole : r ≡ count * width
+  pub at-is : at ≡ from + count * width

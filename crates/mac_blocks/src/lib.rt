@@ -7,7 +7,7 @@ ghost use Rattle.mac_registers.specs.Stored.{packed, tagging_of};
 ghost use Rattle.mac_registers.specs.Inner.{Width};
 ghost use Rattle.mac_registers.specs.InnerOpen.{AtRest, Opened, Stands, stored_at};
 ghost use Rattle.mac_registers.specs.Tagging.{updated};
-ghost use Rattle.mac_blocks.specs.InnerWhole.{Portion, fed_by};
+ghost use Rattle.mac_blocks.specs.InnerWhole.{Whole, fed_by};
 
 use mac_registers::{Moved, Open, fresh_at, key_on, tag_with};
 use zuc_turn::Run;
@@ -57,15 +57,13 @@ fn feed(run: &mut Run, o: Open, part: &[u8]) -> Open
     }
 }
 
-// The bytes of the next blocks, at most 256.
-fn portion(width: usize, left: usize) -> usize
-    requires { Width width }
-    ensures { Portion width left result }
+// The end of the whole blocks in a message from a place on.
+fn end_of(width: usize, len: usize, from: usize) -> usize
+    requires width_fits { Width width }
+    requires from_fits { from ≤ len }
+    ensures { Whole width len from result }
 {
-    if 256 <= left {
-        return 256;
-    }
-    left - left % width
+    len - (len - from) % width
 }
 
 // Whole blocks, as many as there are, where nothing waits.
@@ -74,13 +72,11 @@ pub fn blocks(run: &mut Run, start: Open, message: &[u8], from: usize) -> Moved
     requires aligned { (start.cnt ≡ 0) × (from ≤ length message.now) }
     ensures { AtRest run.new.cells run.new.pairs result.o.g.h × Blocks (stored_at run.old.cells start) message.now from (stored_at run.new.cells result.o) result.at }
 {
-    let width = start.width;
+    let at = end_of(start.width, message.len(), from);
     let mut o = start;
-    let mut i = from;
-    while width <= message.len() - i {
-        let e = i + portion(width, message.len() - i);
+    for i in (from..at).step_by(256) {
+        let e = i + (at - i).min(256);
         o = feed(run, o, &message[i..e]);
-        i = e;
     }
-    Moved { o, at: i }
+    Moved { o, at }
 }
