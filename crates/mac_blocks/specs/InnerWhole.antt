@@ -1,5 +1,5 @@
 -- Whole blocks in bulk: what is promised of the words drawn before they are used, and of the bytes taken at a time.
-use Rattle.std.specs.Prelude.{List, ◌≡◌, ℕ, ◌+◌, ◌*◌, ◌/◌, ◌<◌, ◌≤◌, length, replicate, take}
+use Rattle.std.specs.Prelude.{List, ◌≡◌, ℕ, ◌*◌, ◌/◌, length, replicate, take}
 use Rattle.standard.specs.Generator.{word_at}
 use Rattle.standard.specs.States.{Held, moved}
 use Rattle.standard.specs.Notation.{listed}
@@ -17,10 +17,3 @@ abbrev pub fed_by : ℕ → List ℕ → List ℕ → List ℕ → List ℕ → 
 fed_by width key tag words part key' tag' =
     (σ : Held) → Holds (empty_of width σ key tag) → take (length part / 4) words ≡ listed (word_at σ.meaning) 0 (length part / 4)
     → empty_of width (moved (length part / 4) σ) key' tag' ≡ packed width (updated (width * 8) (tagging_of (empty_of width σ key tag)) part)
-
--- the end of the whole blocks from a place on: less than a block is left
-pub record Whole (width len from at : ℕ) : Type 0 where
-  pub within : at ≤ len
-  pub all : len < at + width
-  pub count : ℕ
-  pub at-is : at ≡ from + count * width

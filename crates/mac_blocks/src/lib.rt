@@ -7,7 +7,7 @@ ghost use Rattle.mac_registers.specs.Stored.{packed, tagging_of};
 ghost use Rattle.mac_registers.specs.Inner.{Width};
 ghost use Rattle.mac_registers.specs.InnerOpen.{AtRest, Opened, Stands, stored_at};
 ghost use Rattle.mac_registers.specs.Tagging.{updated};
-ghost use Rattle.mac_blocks.specs.InnerWhole.{Whole, fed_by};
+ghost use Rattle.mac_blocks.specs.InnerWhole.{fed_by};
 
 use mac_registers::{Moved, Open, fresh_at, key_on, tag_with};
 use zuc_turn::Run;
@@ -57,22 +57,13 @@ fn feed(run: &mut Run, o: Open, part: &[u8]) -> Open
     }
 }
 
-// The end of the whole blocks in a message from a place on.
-fn end_of(width: usize, len: usize, from: usize) -> usize
-    requires width_fits { Width width }
-    requires from_fits { from ≤ len }
-    ensures { Whole width len from result }
-{
-    len - (len - from) % width
-}
-
 // Whole blocks, as many as there are, where nothing waits.
 pub fn blocks(run: &mut Run, start: Open, message: &[u8], from: usize) -> Moved
     requires opened { Opened run.old.cells run.old.pairs start }
     requires aligned { (start.cnt ≡ 0) × (from ≤ length message.now) }
     ensures { AtRest run.new.cells run.new.pairs result.o.g.h × Blocks (stored_at run.old.cells start) message.now from (stored_at run.new.cells result.o) result.at }
 {
-    let at = end_of(start.width, message.len(), from);
+    let at = message.len() - (message.len() - from) % start.width;
     let mut o = start;
     for i in (from..at).step_by(256) {
         let e = i + (at - i).min(256);

@@ -36,10 +36,3 @@ pub record Reaches (clean : Bool) (L n : ℕ) (r : Reach) : Type 0 where
   pub end : end_of L r ≡ mode_end clean L
   pub words : r.drawn ≡ (if clean then words_to_mask_clean L else words_to_mask_crate n)
   pub enough : L ≤ n * 8 → Enough n L r
-
--- what a mask draws its words from: a state, or what start-up makes of cells that are fresh from a load and lie in their order
-abbrev pub drawn_from : Bool → Zuc → State
-drawn_from fresh z = if fresh then started (record { cells = z.s; R₁ = z.r1; R₂ = z.r2 }) else (held_of z).meaning
-
-abbrev pub InPlace : Bool → Zuc → Type 0
-InPlace fresh z = Cells (if fresh then z.s else cells_from z.start z.s) × (z.start < 16)

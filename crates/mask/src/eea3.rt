@@ -7,10 +7,9 @@ ghost use Rattle.standard.specs.Confidentiality.{IV-EEA3, mask_clean};
 ghost use Rattle.standard.specs.Generator.{keystream};
 ghost use Rattle.standard.specs.Loading.{load₁₂₈};
 
-use super::{Reach, mask_from, reach_of};
+use super::{Reach, mask_loaded, reach_of};
 use refusals::Refusal;
 use words::fields_fit;
-use zuc::Zuc;
 use zuc_loading::eea3::iv;
 use zuc_loading::zuc128::load;
 
@@ -30,20 +29,13 @@ fn mask_by(
 {
     let v = iv(count, bearer, direction);
     let loaded = load(key, &v);
-    let s = loaded.s;
-    let z = Zuc {
-        s,
-        r1: loaded.r1,
-        r2: loaded.r2,
-        start: 0,
-    };
     let to = reach.to;
     let fewest = Reach {
         kept: reach.kept,
         to,
         drawn: to / 4 + (to % 4 + 3) / 4,
     };
-    mask_from(true, z, buf, bits, fewest);
+    mask_loaded(loaded, buf, bits, fewest);
 }
 
 // Both modes. The tests come before start-up, so that a refusal does not pay for it.

@@ -1,15 +1,17 @@
 // Masking in place by bit length (the crate's internal/stream_cipher.rs), in the crate's mode and in clean mode; EEA3 in one call is a module.
 #![tactic(auto)]
 
-ghost use Rattle.std.specs.Prelude.{false, ◌≡◌, ◌≤◌, ◌*◌, ◌+◌, length};
-ghost use Rattle.mask.specs.Inner.{Enough, InPlace, Reaches, cleared, drawn_from, end_of, zeroed};
+ghost use Rattle.std.specs.Prelude.{◌≡◌, ◌≤◌, ◌*◌, ◌+◌, length};
+ghost use Rattle.mask.specs.Inner.{Enough, Reaches, cleared, end_of, zeroed};
 ghost use Rattle.mask.specs.Modes.{mask_outcome};
 ghost use Rattle.mask.specs.Outcome.{told, crate_outcome, clean_outcome};
 ghost use Rattle.standard.specs.Confidentiality.{mask_clean};
-ghost use Rattle.standard.specs.Generator.{after, word_at};
+ghost use Rattle.standard.proofs.Cells.{Cells};
+ghost use Rattle.standard.proofs.Held.{Ready};
+ghost use Rattle.standard.specs.Generator.{after, started, word_at};
 ghost use Rattle.standard.specs.Notation.{each_from};
 ghost use Rattle.standard.specs.States.{moved};
-ghost use Rattle.zuc.specs.Reading.{counted_of, held_of};
+ghost use Rattle.zuc.specs.Reading.{counted_of, held_of, loaded_of};
 ghost use Rattle.zuc_turn.specs.InnerRun.{Laid, Low, Standing, state_at};
 
 use mask_bulk::mask_on;
@@ -84,38 +86,28 @@ fn mask_standing(run: &mut Run, start: Halves, buf: &mut [u8], bits: usize, reac
     h
 }
 
-// A run that stands at 0 for a state, or, where the cells are fresh from a load, for what start-up makes of them.
-fn lay_on(fresh: bool, z: Zuc, run: &mut Run) -> Halves
-    requires { InPlace fresh z }
-    ensures { Standing run.new.cells run.new.pairs 0 result (drawn_from fresh z) }
-{
-    if fresh {
-        let s = z.s;
-        let loaded = Loaded {
-            s,
-            r1: z.r1,
-            r2: z.r2,
-        };
-        return begin(loaded, run);
-    }
-    lay_state(z, &mut run.cells, &mut run.pairs)
-}
-
-// The mask by the same, and the state after a mask by a state; after any other nobody asks for it. Both forms of a call come here, so that
-// the loop has the run as its own: of a run that is lent no load could be moved before a store.
-fn mask_from(fresh: bool, z: Zuc, buf: &mut [u8], bits: usize, reach: Reach) -> Zuc
-    requires in_place { InPlace fresh z }
+// The mask by the words of a state, and the state after it.
+fn mask_held(z: Zuc, buf: &mut [u8], bits: usize, reach: Reach) -> Zuc
+    requires ready { Ready (held_of z) }
     requires enough { Enough (length buf.old) bits reach }
-    ensures state { fresh ≡ false → held_of result ≡ moved reach.drawn (held_of z) }
-    ensures bytes { buf.new ≡ mask_clean (word_at (drawn_from fresh z)) (end_of bits reach) buf.old }
+    ensures state { held_of result ≡ moved reach.drawn (held_of z) }
+    ensures bytes { buf.new ≡ mask_clean (word_at (held_of z).meaning) (end_of bits reach) buf.old }
 {
     let mut run = Run::new();
-    let laid = lay_on(fresh, z, &mut run);
+    let laid = lay_state(z, &mut run.cells, &mut run.pairs);
     let h = mask_standing(&mut run, laid, buf, bits, reach);
-    if fresh {
-        return z;
-    }
     state_of(&run.cells, h, index_after(z.start, reach.drawn))
+}
+
+// The mask by the words of what start-up makes of loaded cells; the state after it is nobody's.
+fn mask_loaded(loaded: Loaded, buf: &mut [u8], bits: usize, reach: Reach)
+    requires cells { Cells loaded.s }
+    requires enough { Enough (length buf.old) bits reach }
+    ensures { buf.new ≡ mask_clean (word_at (started (loaded_of loaded))) (end_of bits reach) buf.old }
+{
+    let mut run = Run::new();
+    let laid = begin(loaded, &mut run);
+    mask_standing(&mut run, laid, buf, bits, reach);
 }
 
 // Both modes: the tests, and then the mask. The words drawn, or BadState, BadBits, Spent, in this order: then state and buffer stay as they came.
@@ -133,7 +125,7 @@ fn mask(clean: bool, state: &mut Generator, buf: &mut [u8], bits: usize) -> Resu
     if !words::has_left(state.count, drawn) {
         return Err(Refusal::Spent);
     }
-    state.z = mask_from(false, state.z, buf, bits, reach);
+    state.z = mask_held(state.z, buf, bits, reach);
     state.count += drawn;
     Ok(drawn)
 }

@@ -44,18 +44,17 @@ returns-then-not-has_left c =
     too_many (call c.args.clean (counted_of c.args.state.now) c.args.bits c.args.buf.now) (sym c.if-not-is_formed.ensures.formed) (sym c.if-not-bits_fit.ensures)
     c.reach_of-reach.ensures.words (sym c.if-not-has_left.ensures)
 
-pub mask_from-state-requires : goal.mask_from-state-requires
-mask_from-state-requires c =
-    let held = (c.if-not-is_formed.ensures.ready refl).0 in
-    record { in_place = (held.cells, held.start); enough = c.reach_of-reach.ensures.enough (leb-true _ _ (sym c.if-not-bits_fit.ensures)) }
+pub mask_held-state-requires : goal.mask_held-state-requires
+mask_held-state-requires c =
+    record { ready = (c.if-not-is_formed.ensures.ready refl).0; enough = c.reach_of-reach.ensures.enough (leb-true _ _ (sym c.if-not-bits_fit.ensures)) }
 
 pub returns : goal.returns
 unfolding mask_tested
 returns c =
     let a = c.args in
     let reaches = c.reach_of-reach.ensures in
-    let m = c.mask_from-state.ensures in
-    let state = m.state refl ∙ ap (λ (n : ℕ). moved n (held_of a.state.now.z)) reaches.words in
+    let m = c.mask_held-state.ensures in
+    let state = m.state ∙ ap (λ (n : ℕ). moved n (held_of a.state.now.z)) reaches.words in
     let masked = m.bytes ∙ mode-mask a.clean _ a.bits a.buf.now reaches.end in
     done (call c.args.clean (counted_of c.args.state.now) c.args.bits c.args.buf.now) (sym c.if-not-is_formed.ensures.formed) (sym c.if-not-bits_fit.ensures)
     reaches.words (sym c.if-not-has_left.ensures)
