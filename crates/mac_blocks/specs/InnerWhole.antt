@@ -1,5 +1,5 @@
 -- Whole blocks in bulk: what is promised of the words drawn before they are used, and of the bytes taken at a time.
-use Rattle.std.specs.Prelude.{List, ◌≡◌, ℕ, ◌*◌, ◌/◌, ◌≤◌, length, replicate, take}
+use Rattle.std.specs.Prelude.{List, ◌≡◌, ℕ, ◌*◌, ◌/◌, length, replicate, take}
 use Rattle.standard.specs.Generator.{word_at}
 use Rattle.standard.specs.States.{Held, moved}
 use Rattle.standard.specs.Notation.{listed}

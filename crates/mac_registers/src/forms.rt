@@ -20,7 +20,7 @@ fn all_zero(words: &[u64]) -> bool
     words.iter().all(|w| *w == 0)
 }
 
-// Whether the bytes from one on are zero.
+// Whether the bytes from one on are zero. Not one generic function with the test of words: the definition is of lists of numbers.
 fn zero_from(rem: &[u8], from: usize) -> bool
     requires { from ≤ length rem.now }
     ensures { result ≡ all_zero (drop from rem.now) }

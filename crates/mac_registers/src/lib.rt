@@ -144,7 +144,7 @@ pub fn wide_at(block: &[u8], at: usize) -> u64
     joined(word_at(block, at), word_at(block, at + 4))
 }
 
-// The tag with the key pair's windows at the set bits of a block.
+// The tag with the key pair's windows at the set bits of a block. No method of TagOn: a loop over drawn words has no generator at hand.
 pub fn tag_with(width: usize, key: [u64; 4], tag: [u64; 2], block: &[u8]) -> [u64; 2]
     requires width_fits { Width width }
     requires block_fits { width ≤ length block.now }

@@ -55,7 +55,7 @@ pub fn begin_256(run: &mut Run, start: OnRun, width: usize) -> Open
 }
 
 // Bytes put behind those that wait.
-pub fn behind(waiting: [u8; 16], cnt: usize, bytes: &[u8]) -> [u8; 16]
+fn behind(waiting: [u8; 16], cnt: usize, bytes: &[u8]) -> [u8; 16]
     requires { cnt + length bytes.now ≤ 16 }
     ensures { result ≡ paste waiting cnt bytes.now (length bytes.now) }
 {

@@ -1,7 +1,7 @@
 -- What the loop keeps.
 use mathlib.Core.Path.{◌≡◌}
 use Prim.Native.Nat.{ℕ, ◌+◌, ◌*◌, ◌-◌, ◌≤◌}
-use lib.ListN.{drop, length, take}
+use lib.ListN.{drop, take}
 use Rattle.mac_registers.specs.Stored.{packed, tagging_of}
 use Rattle.mac_registers.specs.InnerOpen.{Stands, stored_at}
 use Rattle.mac_registers.specs.Tagging.{updated}

@@ -39,8 +39,8 @@ returns-2 c =
     let fits = room c.requires.width_fits l.i (length a.part.now) n.0 m.0 n.1 m.1 c.loop-i-test.true in
     let end : l.i + a.width ≡ length a.part.now = omega (arith, fits.0) in
     λ σ h e. fed-all a.width a.key a.tag a.words.now a.part.now σ h e (l.i + a.width) _ _
-        (fed-on a.width a.key a.tag a.words.now a.part.now σ h e l.i l.fed.key l.fed.tag _ _ _ (l.invariant.2 σ h e) n m c.loop-i-test.true
-        c.tag_with-sum.ensures c.fresh_at-fresh.ensures c.key_on-moved.ensures) end
+    (fed-on a.width a.key a.tag a.words.now a.part.now σ h e l.i l.fed.key l.fed.tag _ _ _ (l.invariant.2 σ h e) n m c.loop-i-test.true
+    c.tag_with-sum.ensures c.fresh_at-fresh.ensures c.key_on-moved.ensures) end
 
 -- no block
 pub returns : goal.returns
