@@ -1,4 +1,5 @@
-// 128-EIA3: the IV, the start and the one-shot, and their strict forms. The rest is ZUC-128's.
+// 128-EIA3: the IV, the start and the one-shot, and their strict forms. The rest is ZUC-128's. COUNT, bearer and direction stay three
+// parameters, and a strict form a function of its own: so the crate's calls, the document and C's have them (01; request 2026-04).
 ghost use Rattle.std.specs.Prelude.{◌≡◌};
 ghost use Rattle.mac.specs.Calls.{once_outcome-EIA3, once_told, start_outcome-EIA3, strict_once_outcome-EIA3, strict_start_outcome-EIA3, tag_told};
 ghost use Rattle.mac.specs.Reading.{tagged_of-128};

@@ -1,4 +1,5 @@
-// ZUC-256 tags of 4, 8 and 16 bytes.
+// ZUC-256 tags of 4, 8 and 16 bytes. Calls of the same names as ZUC-128's, and not one generic call: states are of two types, so that no
+// tag is closed by the other's rule, and what both do stands once in `update_state` and in mac_tagging.
 ghost use Rattle.std.specs.Prelude.{◌≡◌};
 ghost use Rattle.mac.specs.Calls.{finish_outcome-256, finish_told, no_words, once_outcome-256, once_told, start_outcome-256, tag_told, update_outcome, update_told};
 ghost use Rattle.mac.specs.Reading.{tagged_of-256};

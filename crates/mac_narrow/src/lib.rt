@@ -21,7 +21,8 @@ pub struct Narrow {
     pub tag: u32,
 }
 
-// At most 64 blocks of four bytes. The cells and pairs are at the front, before and after.
+// At most 64 blocks of four bytes. The cells and pairs are at the front, before and after. By index: a turn of the run asks for its number,
+// so an iterator over blocks would have to carry it beside them.
 fn words_32(run: &mut Run, start: Narrow, part: &[u8]) -> Narrow
     requires laid { Laid run.old.cells run.old.pairs 0 }
     requires halves { Low start.g.h × (start.g.start < 16) }

@@ -50,7 +50,7 @@ impl OnRun {
         ensures rest { AtRest run.new.cells run.new.pairs result.h }
         ensures held { held_on run.new.cells result ≡ held_of g }
     {
-        let h = lay_state(g, &mut run.cells, &mut run.pairs);
+        let h = lay_state(g, run);
         OnRun { h, start: g.start }
     }
 

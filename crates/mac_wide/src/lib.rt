@@ -47,7 +47,7 @@ fn multiples(x: u64, y: u64) -> [u64; 16]
     ]
 }
 
-// Four bits of a block, the high ones and the low ones of a byte.
+// Four bits of a block, the high ones and the low ones of a byte. Two functions: one that is told which would be a switch, with two promises.
 fn first_four(block: &[u8], at: usize) -> usize
     requires { at < length block.now }
     ensures { (result ≡ window (M block.now) (at * 8) 4) × (result < 16) }

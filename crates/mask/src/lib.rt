@@ -53,7 +53,8 @@ struct Reach {
 }
 
 // Clean mode keeps no bit past the length and masks the bytes that the bits reach into; crate mode leaves a byte masked whose first bit is
-// the first past the length, and goes by the n bytes lent.
+// the first past the length, and goes by the n bytes lent. Which mode it is stays a bool: a closure would pass through three functions to
+// stand for these two branches.
 fn reach_of(clean: bool, bits: usize, n: usize) -> Reach
     ensures { Reaches clean bits n result }
 {
@@ -94,7 +95,7 @@ fn mask_held(z: Zuc, buf: &mut [u8], bits: usize, reach: Reach) -> Zuc
     ensures bytes { buf.new ≡ mask_clean (word_at (held_of z).meaning) (end_of bits reach) buf.old }
 {
     let mut run = Run::new();
-    let laid = lay_state(z, &mut run.cells, &mut run.pairs);
+    let laid = lay_state(z, &mut run);
     let h = mask_standing(&mut run, laid, buf, bits, reach);
     state_of(&run.cells, h, index_after(z.start, reach.drawn))
 }
