@@ -17,11 +17,11 @@ pub fn rol(x: u32, n: u32) -> u32
     x.rotate_left(n)
 }
 
-// Four bytes as one word, highest first: the library's conversion, with the documents' || for what it gives.
+// Four bytes as one word, highest first. By shifts: with `from_be_bytes` a draw, which joins four entries of the boxes, takes longer.
 pub fn word_of(a: u8, b: u8, c: u8, d: u8) -> u32
     ensures { result ≡ a ‖₈ b ‖₈ c ‖₈ d }
 {
-    u32::from_be_bytes([a, b, c, d])
+    ((a as u32) << 24) + ((b as u32) << 16) + ((c as u32) << 8) + (d as u32)
 }
 
 // Byte j of a word, the highest first, for the loops that take one byte; who takes all four calls `to_be_bytes`.
