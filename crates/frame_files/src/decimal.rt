@@ -26,12 +26,7 @@ impl Error for NumberError {}
 fn all_digits(text: &[u8]) -> bool
     ensures { result ≡ all_digits text.now }
 {
-    for c in text {
-        if !c.is_ascii_digit() {
-            return false;
-        }
-    }
-    true
+    text.iter().all(|c| c.is_ascii_digit())
 }
 
 // The value of digits. It stops at the first digit that takes it past 32 bits: no later one brings it back.
