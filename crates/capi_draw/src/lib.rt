@@ -11,7 +11,7 @@ ghost use Rattle.standard.specs.Notation.{◌⟨◌⟩};
 
 use zuc::{cells_formed, f, new_cell, reorganized};
 
-// The words of a start (request 2026-09), as a word of the array.
+// The words of a start (request 2026-09), as a word of the array. A number of its own beside `words::LIMIT`: an edit sets this one alone.
 const LIMIT: u32 = 134217730;
 
 // What a draw makes: the new cell, the registers, and the word.

@@ -1,4 +1,4 @@
-// 128-EEA3: the start, and its strict form.
+// 128-EEA3: the start, and its strict form. COUNT, bearer and direction are parameters, as in the document and in C.
 ghost use Rattle.std.specs.Prelude.{◌≡◌};
 ghost use Rattle.keystream.specs.Starts.{start_told, start-EEA3, strict_start-EEA3};
 

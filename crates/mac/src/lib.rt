@@ -19,7 +19,8 @@ pub mod eia3;
 pub mod zuc128;
 pub mod zuc256;
 
-// The state of a ZUC-128 or EIA3 tag, and that of a ZUC-256 tag: two types, so that neither is closed by the other's rule unawares.
+// The state of a ZUC-128 or EIA3 tag, and that of a ZUC-256 tag: two types, so that neither is closed by the other's rule unawares. One type
+// with a marker would say no less and need a marker type for each: no plainer.
 // Beside each, how many words its start has drawn (request 2026-09).
 #[derive(Clone, Copy, Default)]
 pub struct Mac128 {

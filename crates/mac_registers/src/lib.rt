@@ -145,6 +145,7 @@ pub fn wide_at(block: &[u8], at: usize) -> u64
 }
 
 // The tag with the key pair's windows at the set bits of a block. No method of TagOn: a loop over drawn words has no generator at hand.
+// A width is a number, here and below, and 16 what is left: a state that C lends may hold any, and is packed again as it came.
 pub fn tag_with(width: usize, key: [u64; 4], tag: [u64; 2], block: &[u8]) -> [u64; 2]
     requires width_fits { Width width }
     requires block_fits { width ≤ length block.now }

@@ -32,7 +32,8 @@ pub fn begin_128(run: &mut Run, start: OnRun) -> Open
     }
 }
 
-// The first words as the tag, and a key pair of those after them: all are drawn at once.
+// The first words as the tag, and a key pair of those after them: all are drawn at once. Beside `begin_128` here, and so in the calls and
+// closings: the documents begin and close a tag of EIA3 and one of ZUC-256 by other words, and one function would be a switch between them.
 pub fn begin_256(run: &mut Run, start: OnRun, width: usize) -> Open
     requires at_rest { AtRest run.old.cells run.old.pairs start.h }
     requires start_fits { start.start < 16 }

@@ -1,5 +1,6 @@
 // 128-EEA3 in one call: start-up and mask on one run, in either mode, and the strict forms (request 2026-04). No state is written between.
-// Four public forms and no switch in their place: each is a call of the requests and of C, with a name of its own.
+// Four public forms and no switch in their place: each is a call of the requests and of C, with a name of its own. COUNT, bearer and direction
+// are parameters, as in the document and in C.
 ghost use Rattle.std.specs.Prelude.{length, ◌≡◌};
 ghost use Rattle.mask.specs.Inner.{Enough, end_of};
 ghost use Rattle.mask.specs.Modes.{plain-EEA3, strict-EEA3};

@@ -49,7 +49,7 @@ fn tells(a: Answer<'_>, tag: Result<[u64; 2], Refusal>) -> bool {
     number_of(&tag) == u32::from(a.refusal) && bytes.as_flattened() == a.bytes
 }
 
-// A refused start leaves zeros, which no call takes.
+// A refused start leaves zeros, which no call takes. Beside ZUC-256's: the states are of two types, and the tags of two shapes.
 fn tag128_agrees(start: Result<Mac128, Refusal>, c: Call<'_>, a: Answer<'_>) -> bool {
     let mut m = start.unwrap_or_default();
     for msg in c.updates {

@@ -1,4 +1,4 @@
-// A script of calls (standard input), run through the exported functions as C calls them and shown as a table. README.md says what its
+// A script of calls (standard input), run through the functions that `capi_c` exports and shown as a table. README.md says what its
 // lines are.
 #![tactic(auto)]
 
