@@ -4,7 +4,7 @@ use mathlib.Core.Path.{◌≡◌, refl, sym, ap, ap₂, ◌∙◌}
 use mathlib.Core.List.{List, [], ◌∷◌}
 use Prim.Native.Nat.{ℕ, ◌+◌, ◌-◌, ◌^◌, ◌<◌, ◌≤◌}
 use native.Mathlib.Omega.{arith}
-use lib.Dec.{eqb}
+use lib.Dec.{eqb, leb}
 use lib.ListN.{length}
 use borrow.Author.Tests.{eq-eqb, le-leb, lt-leb, ne_eqb}
 use Rattle.standard.specs.Frame.{Fields, body_fits, body_in, fields_in, tag_in, tag_over, two_at}
@@ -30,6 +30,22 @@ opened CK IK frame c i l v t e =
       eq-eqb (frame ⟨ 0 ⟩) 1 v,
       eq-eqb (two_at frame 1) (length frame - 3) t,
     ) e
+
+-- the tests before the tag's
+abbrev Passed : List ℕ → Type 0
+Passed frame =
+    ((field_test (fields_in frame).bearer (fields_in frame).direction).passes ≡ true)
+    × (body_fits (fields_in frame).L (body_in frame) ≡ true)
+    × (leb (0 + drawn_by_tag-EIA3 (fields_in frame).L) limit ≡ true)
+
+-- pass, where they pass of the fields and the body that the code has; the limit's, since a bit length has 32 bits
+passed : (frame : List ℕ) {f : Fields} {body : List ℕ} → f ≡ fields_in frame → body ≡ body_in frame
+    → (field_test f.bearer f.direction).passes ≡ true → body_fits f.L body ≡ true → f.L < 2 ^ 32 → Passed frame
+passed frame e b fields body low = (
+  ap (λ (x : Fields). (field_test x.bearer x.direction).passes) (sym e) ∙ fields,
+  ap₂ body_fits (ap (λ (x : Fields). x.L) (sym e)) (sym b) ∙ body,
+  le-leb (0 + drawn_by_tag-EIA3 (fields_in frame).L) limit (omega (arith, ap (λ (x : Fields). x.L) e, low)),
+)
 
 pub returns-then-ck-ne16-clause-number : goal.returns-then-ck-ne16-clause-number
 unfolding tested
@@ -89,41 +105,21 @@ tag_over-requires c =
 pub returns-then-four_at-tag_over-clause-number : goal.returns-then-four_at-tag_over-clause-number
 unfolding tested
 returns-then-four_at-tag_over-clause-number c =
-    let fields : (field_test (fields_in c.args.frame.now).bearer (fields_in c.args.frame.now).direction).passes ≡ true =
-    ap (λ (f : Fields). (field_test f.bearer f.direction).passes) (sym c.fields_in-f.ensures)
-    ∙ sym c.if-not-fields_fit.ensures in
-    let body : body_fits (fields_in c.args.frame.now).L (body_in c.args.frame.now) ≡ true =
-    ap₂ body_fits (ap (λ (f : Fields). f.L) (sym c.fields_in-f.ensures)) (sym (lent-body c.args.frame.now))
-    ∙ sym c.if-not-body_fits.ensures in
-    let low : (fields_in c.args.frame.now).L < 2 ^ 32 =
-    omega (arith, ap (λ (f : Fields). f.L) c.fields_in-f.ensures, c.fields_in-f.type_inv) in
-    let tag-told : c.tag_over.result ≡ tag_over c.args.ik.now (fields_in c.args.frame.now) (body_in c.args.frame.now) =
-    c.tag_over.ensures
-    ∙ ap₂ (tag_over c.args.ik.now) c.fields_in-f.ensures (lent-body c.args.frame.now) in
-    let a = c.args in
-    let frame = a.frame.now in
-    let no : eqb (tag_in frame) (tag_over a.ik.now (fields_in frame) (body_in frame)) ≡ false =
-    ne_eqb (tag_in frame) (tag_over a.ik.now (fields_in frame) (body_in frame)) (λ e. c.if-four_at-tag_over.true (c.four_at.ensures ∙ e ∙ sym tag-told)) in
-    opened c.args.ck.now c.args.ik.now c.args.frame.now (omega arith) (omega arith) (omega arith) (omega arith) (omega arith)
-    (rw (fields, body, le-leb (0 + drawn_by_tag-EIA3 (fields_in frame).L) limit (omega (arith, low)), no) refl)
+    let frame = c.args.frame.now in
+    let p = passed frame c.fields_in-f.ensures (lent-body frame) (sym c.if-not-fields_fit.ensures) (sym c.if-not-body_fits.ensures) (omega (arith, c.fields_in-f.type_inv)) in
+    let tag = tag_over c.args.ik.now (fields_in frame) (body_in frame) in
+    let told : c.tag_over.result ≡ tag = c.tag_over.ensures ∙ ap₂ (tag_over c.args.ik.now) c.fields_in-f.ensures (lent-body frame) in
+    let no : eqb (tag_in frame) tag ≡ false =
+    ne_eqb (tag_in frame) tag (λ e. c.if-four_at-tag_over.true (c.four_at.ensures ∙ e ∙ sym told)) in
+    opened c.args.ck.now c.args.ik.now frame (omega arith) (omega arith) (omega arith) (omega arith) (omega arith) (rw (p.0, p.1, p.2, no) refl)
 
 pub returns-clause-number : goal.returns-clause-number
 unfolding tested
 returns-clause-number c =
-    let fields : (field_test (fields_in c.args.frame.now).bearer (fields_in c.args.frame.now).direction).passes ≡ true =
-    ap (λ (f : Fields). (field_test f.bearer f.direction).passes) (sym c.fields_in-f.ensures)
-    ∙ sym c.if-not-fields_fit.ensures in
-    let body : body_fits (fields_in c.args.frame.now).L (body_in c.args.frame.now) ≡ true =
-    ap₂ body_fits (ap (λ (f : Fields). f.L) (sym c.fields_in-f.ensures)) (sym (lent-body c.args.frame.now))
-    ∙ sym c.if-not-body_fits.ensures in
-    let low : (fields_in c.args.frame.now).L < 2 ^ 32 =
-    omega (arith, ap (λ (f : Fields). f.L) c.fields_in-f.ensures, c.fields_in-f.type_inv) in
-    let tag-told : c.tag_over.result ≡ tag_over c.args.ik.now (fields_in c.args.frame.now) (body_in c.args.frame.now) =
-    c.tag_over.ensures
-    ∙ ap₂ (tag_over c.args.ik.now) c.fields_in-f.ensures (lent-body c.args.frame.now) in
-    let a = c.args in
-    let frame = a.frame.now in
-    let yes : eqb (tag_in frame) (tag_over a.ik.now (fields_in frame) (body_in frame)) ≡ true =
-    eq-eqb (tag_in frame) (tag_over a.ik.now (fields_in frame) (body_in frame)) (sym c.four_at.ensures ∙ c.if-four_at-tag_over.false ∙ tag-told) in
-    opened c.args.ck.now c.args.ik.now c.args.frame.now (omega arith) (omega arith) (omega arith) (omega arith) (omega arith)
-    (rw (fields, body, le-leb (0 + drawn_by_tag-EIA3 (fields_in frame).L) limit (omega (arith, low)), yes) refl)
+    let frame = c.args.frame.now in
+    let p = passed frame c.fields_in-f.ensures (lent-body frame) (sym c.if-not-fields_fit.ensures) (sym c.if-not-body_fits.ensures) (omega (arith, c.fields_in-f.type_inv)) in
+    let tag = tag_over c.args.ik.now (fields_in frame) (body_in frame) in
+    let told : c.tag_over.result ≡ tag = c.tag_over.ensures ∙ ap₂ (tag_over c.args.ik.now) c.fields_in-f.ensures (lent-body frame) in
+    let yes : eqb (tag_in frame) tag ≡ true =
+    eq-eqb (tag_in frame) tag (sym c.four_at.ensures ∙ c.if-four_at-tag_over.false ∙ told) in
+    opened c.args.ck.now c.args.ik.now frame (omega arith) (omega arith) (omega arith) (omega arith) (omega arith) (rw (p.0, p.1, p.2, yes) refl)

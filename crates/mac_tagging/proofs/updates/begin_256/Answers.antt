@@ -8,6 +8,7 @@ use lib.Seq.{length-take-le}
 use Rattle.standard.specs.Generator.{word_at}
 use Rattle.standard.specs.States.{Held, moved}
 use Rattle.standard.proofs.Listed.{length-listed}
+use Rattle.mac_registers.specs.Inner.{Width}
 use Rattle.mac_registers.specs.InnerOpen.{held_on}
 use Rattle.mac_registers.proofs.Fresh.{filled}
 use Rattle.mac_registers.proofs.Packed.{width-most}
@@ -18,60 +19,41 @@ use Rattle.mac_tagging.proofs.updates.begin_256.Goals as goal
 abbrev zeros : List ℕ
 zeros = replicate 12 0
 
+-- three words for each word of a tag fit in it, and what is taken of it for them is as long
+most : (w : ℕ) → Width w → w / 4 * 3 ≤ 12
+most w v = omega (arith, width-most v)
+
+room : (w : ℕ) → Width w → length (take (w / 4 * 3) zeros) ≡ w / 4 * 3
+room w v = length-take-le _ zeros (most w v)
+
+-- and with these words drawn it is as long as before
+long : (w : ℕ) → Width w → (ys : List ℕ) → length ys ≡ length (take (w / 4 * 3) zeros) → 12 ≡ length (ys ++ drop (w / 4 * 3) zeros)
+long w v ys e = omega (arith, length-append ys (drop (w / 4 * 3) zeros), e, room w v, length-drop (w / 4 * 3) zeros, most w v)
+
 pub slice_bounds-words-end : goal.slice_bounds-words-end
-slice_bounds-words-end c =
-    let most : c.args.width / 4 * 3 ≤ 12 =
-    omega (arith, width-most c.requires.width_fits) in
-    most
+slice_bounds-words-end c = most c.args.width c.requires.width_fits
 
 pub slice_bounds-draw-end : goal.slice_bounds-draw-end
-slice_bounds-draw-end c =
-    let most : c.args.width / 4 * 3 ≤ 12 =
-    omega (arith, width-most c.requires.width_fits) in
-    let room : length (take (c.args.width / 4 * 3) zeros) ≡ c.args.width / 4 * 3 =
-    length-take-le _ zeros most in
-    sym room
+slice_bounds-draw-end c = sym (room c.args.width c.requires.width_fits)
 
 pub slice_bounds-fresh_at-end : goal.slice_bounds-fresh_at-end
 slice_bounds-fresh_at-end c =
-    let most : c.args.width / 4 * 3 ≤ 12 =
-    omega (arith, width-most c.requires.width_fits) in
-    let room : length (take (c.args.width / 4 * 3) zeros) ≡ c.args.width / 4 * 3 =
-    length-take-le _ zeros most in
-    let long : length (c.draw-g.new.out ++ drop (c.args.width / 4 * 3) zeros) ≡ 12 =
-    let n : ℕ = c.args.width / 4 * 3 in
-    let ys = c.draw-g.new.out in
-    let drawn : length ys ≡ n = ap length c.draw-g.ensures.words ∙ length-listed _ 0 _ ∙ room in
-    omega (arith, length-append ys (drop n zeros), drawn, length-drop n zeros, most) in
-    sym long
+    long c.args.width c.requires.width_fits c.draw-g.new.out (ap length c.draw-g.ensures.words ∙ length-listed _ 0 _)
 
 pub slice_bounds-key_at-end : goal.slice_bounds-key_at-end
 slice_bounds-key_at-end c =
-    let most : c.args.width / 4 * 3 ≤ 12 =
-    omega (arith, width-most c.requires.width_fits) in
-    let room : length (take (c.args.width / 4 * 3) zeros) ≡ c.args.width / 4 * 3 =
-    length-take-le _ zeros most in
-    let long : length (c.draw-g.new.out ++ drop (c.args.width / 4 * 3) zeros) ≡ 12 =
-    let n : ℕ = c.args.width / 4 * 3 in
-    let ys = c.draw-g.new.out in
-    let drawn : length ys ≡ n = ap length c.draw-g.ensures.words ∙ length-listed _ 0 _ ∙ room in
-    omega (arith, length-append ys (drop n zeros), drawn, length-drop n zeros, most) in
-    sym long
+    long c.args.width c.requires.width_fits c.draw-g.new.out (ap length c.draw-g.ensures.words ∙ length-listed _ 0 _)
 
 pub returns : goal.returns
 returns c =
-    let most : c.args.width / 4 * 3 ≤ 12 =
-    omega (arith, width-most c.requires.width_fits) in
-    let room : length (take (c.args.width / 4 * 3) zeros) ≡ c.args.width / 4 * 3 =
-    length-take-le _ zeros most in
     let drew = c.draw-g.ensures in
     let n : ℕ = c.args.width / 4 * 3 in
     let σ : Held = held_on c.args.run.now.cells c.args.start in
     record {
       rest = drew.rest;
       stored =
-          begun-256 σ _ _ _ c.requires.width_fits _ (drew.held ∙ ap (λ (k : ℕ). moved k σ) room)
-          (filled (word_at σ.meaning) n c.draw-g.new.out zeros (drop n zeros) drew.words most)
+          begun-256 σ _ _ _ c.requires.width_fits _ (drew.held ∙ ap (λ (k : ℕ). moved k σ) (room c.args.width c.requires.width_fits))
+          (filled (word_at σ.meaning) n c.draw-g.new.out zeros (drop n zeros) drew.words (most c.args.width c.requires.width_fits))
           c.fresh_at-tag.ensures
           c.key_at-key.ensures;
     }
