@@ -112,13 +112,14 @@ impl TagState {
 }
 
 impl Open {
-    // The state, with its cells taken back from the run.
-    pub fn taken(self, run: &Run) -> TagState
+    // The state, with its cells taken back from those at the front of a run.
+    pub fn taken(self, run: &[u32]) -> TagState
+        requires room { 16 ≤ length run.now }
         requires halves { Low self.g.h }
         requires start_fits { self.g.start < 16 }
-        ensures { stored_of result ≡ stored_at run.now.cells self }
+        ensures { stored_of result ≡ stored_at run.now self }
     {
-        self.beside(state_of(&run.cells, self.g.h, self.g.start))
+        self.beside(state_of(run, self.g.h, self.g.start))
     }
 }
 

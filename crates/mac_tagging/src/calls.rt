@@ -22,7 +22,7 @@ pub fn start_128(g: Zuc) -> TagState
     let mut run = Run::new();
     let start = OnRun::new(g, &mut run);
     let o = begin_128(&mut run, start);
-    o.taken(&run)
+    o.taken(&run.cells)
 }
 
 pub fn start_256(width: usize, g: Zuc) -> TagState
@@ -33,7 +33,7 @@ pub fn start_256(width: usize, g: Zuc) -> TagState
     let mut run = Run::new();
     let start = OnRun::new(g, &mut run);
     let o = begin_256(&mut run, start, width);
-    o.taken(&run)
+    o.taken(&run.cells)
 }
 
 // Where all bytes wait no cell is laid.
@@ -47,7 +47,7 @@ pub fn update(s: TagState, message: &[u8]) -> TagState
     let mut run = Run::new();
     let o = s.lay(&mut run);
     let e = super::updates::update(&mut run, o, message);
-    e.taken(&run)
+    e.taken(&run.cells)
 }
 
 pub fn finish_128(s: TagState, tail: &[u8], l: usize) -> u32

@@ -56,7 +56,7 @@ pub fn begin_256(run: &mut Run, start: OnRun, width: usize) -> Open
 }
 
 // Bytes put behind those that wait.
-fn behind(waiting: [u8; 16], cnt: usize, bytes: &[u8]) -> [u8; 16]
+pub fn behind(waiting: [u8; 16], cnt: usize, bytes: &[u8]) -> [u8; 16]
     requires { cnt + length bytes.now ≤ 16 }
     ensures { result ≡ paste waiting cnt bytes.now (length bytes.now) }
 {

@@ -12,7 +12,7 @@ use Rattle.mac_tagging.proofs.calls.start_128.Goals as goal
 pub taken-requires : goal.taken-requires
 taken-requires c =
     let back = goes_back (opened-as c.begin_128-o.ensures (good-EIA3 _ (subst Ready (sym c.new-start.ensures.held) c.requires))) in
-    record { halves = back.0; start_fits = back.1 }
+    record { room = back.0; halves = back.1.0; start_fits = back.1.1 }
 
 pub returns : goal.returns
 returns c =

@@ -13,7 +13,7 @@ use Rattle.mac_tagging.proofs.calls.start_256.Goals as goal
 pub taken-requires : goal.taken-requires
 taken-requires c =
     let back = goes_back (opened-as c.begin_256-o.ensures (good-ZUC256 c.requires.width_fits _ (subst Ready (sym c.new-start.ensures.held) c.requires.ready))) in
-    record { halves = back.0; start_fits = back.1 }
+    record { room = back.0; halves = back.1.0; start_fits = back.1.1 }
 
 pub returns : goal.returns
 returns c =

@@ -27,7 +27,7 @@ pub taken-requires : goal.taken-requires
 taken-requires c =
     let laid = c.lay-o.ensures in
     let back = goes_back (opened-as c.update-e.ensures (good-updated _ (opened laid c.requires).holds.good)) in
-    record { halves = back.0; start_fits = back.1 }
+    record { room = back.0; halves = back.1.0; start_fits = back.1.1 }
 
 pub returns : goal.returns
 returns c =
