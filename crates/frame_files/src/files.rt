@@ -1,9 +1,9 @@
 // Keys, bodies and frames read from files, into buffers of fixed size that the caller lends: no heap, since memory could run out.
-ghost use Rattle.std.specs.Prelude.{◌&&◌, ◌≡◌, ◌+◌, ◌≤◌, IfOk, IfSome, length};
+ghost use Rattle.std.specs.Prelude.{◌&&◌, ◌≡◌, ◌+◌, ◌≤◌, IfErr, IfOk, IfSome, length};
 ghost use Rattle.frame_files.specs.Stream.{IsPrefixLen, frame_end};
 ghost use Rattle.standard.specs.Refusals.{key_test};
 
-use crate::input::read_full;
+use crate::input::{BrokenOff, read_full};
 use crate::told;
 use std::env::{Env, FillError};
 use std::fs::Files;
@@ -69,9 +69,10 @@ pub fn keys_fit(ck: &[u8], ik: &[u8]) -> bool
 }
 
 // A body, put where a writer finds it: one byte more than a frame can hold is read, so that a longer body shows.
-pub fn read_body<R: Read>(from: &mut R, frame: &mut [u8]) -> io::Result<usize>
+pub fn read_body<R: Read>(from: &mut R, frame: &mut [u8]) -> Result<usize, BrokenOff>
     requires { length frame.old ≡ 65539 }
-    ensures { IfOk result (λ n. n ≤ 65522) }
+    ensures ok { IfOk result (λ n. n ≤ 65522) }
+    ensures err { IfErr result (λ e. e.bytes ≤ 65522) }
 {
     read_full(from, &mut frame[13..65535])
 }
@@ -86,15 +87,20 @@ pub fn frame_end(stream: &[u8]) -> usize
 }
 
 // The next frame of a stream, and no byte of the one behind it; fewer where the stream ends.
-pub fn read_frame<R: Read>(from: &mut R, frame: &mut [u8]) -> io::Result<usize>
+pub fn read_frame<R: Read>(from: &mut R, frame: &mut [u8]) -> Result<usize, BrokenOff>
     requires { length frame.old ≡ 65538 }
-    ensures { IfOk result (λ n. (n ≤ 65538) × (n ≤ frame_end frame.new)) }
+    ensures ok { IfOk result (λ n. (n ≤ 65538) × (n ≤ frame_end frame.new)) }
+    ensures err { IfErr result (λ e. (e.bytes ≤ 65538) × (e.bytes ≤ frame_end frame.new)) }
 {
     let least = read_full(from, &mut frame[..17])?;
     if least < 17 {
         return Ok(least);
     }
     let end = frame_end(frame);
-    let rest = read_full(from, &mut frame[17..end])?;
+    // Where this read fails, the 17 bytes before it have come, too.
+    let rest = read_full(from, &mut frame[17..end]).map_err(|e| BrokenOff {
+        bytes: 17 + e.bytes,
+        ..e
+    })?;
     Ok(17 + rest)
 }

@@ -18,7 +18,7 @@ impl From<Refusal> for Stop {
     }
 }
 
-fn text<W: Write>(to: &mut W, line: &[u8]) {
+pub fn text<W: Write>(to: &mut W, line: &[u8]) {
     let _ = to.write_all(line);
 }
 

@@ -32,7 +32,7 @@ fn open_all(rt: &HostRuntime, ck: &[u8], ik: &[u8]) -> Result<(), Stop> {
     let mut from = rt.reader();
     let mut frame = [0u8; 65538];
     for _ in 0..u64::MAX {
-        let n = read_frame(&mut from, &mut frame).map_err(Stop::Input)?;
+        let n = read_frame(&mut from, &mut frame).map_err(|e| Stop::Input(e.why))?;
         if n == 0 {
             break;
         }

@@ -55,7 +55,7 @@ fn fields<E: Env>(env: &E) -> Option<FrameFields> {
 
 fn seal(rt: &HostRuntime, ck: &[u8], ik: &[u8], asked: FrameFields) -> Result<(), Stop> {
     let mut room = [0u8; 65539];
-    let n = read_body(&mut rt.reader(), &mut room).map_err(Stop::Input)?;
+    let n = read_body(&mut rt.reader(), &mut room).map_err(|e| Stop::Input(e.why))?;
     let mut f = asked;
     if !has_bits(rt) {
         f.bits = n as u32 * 8;
