@@ -35,10 +35,11 @@ impl<'a> Progress<'a> {
 
     // A line that calls. One that is no call, or whose answer fills the room and may be cut, is a wrong row.
     fn called(&mut self, rt: &impl Print, line: &[u8], name: &'a [u8]) -> io::Result<()> {
-        let told = call(line, &mut self.arrays).filter(|told| !told.is_full());
+        self.got = Told::new();
+        let made = call(line, &mut self.arrays, &mut self.got);
         self.name = name;
-        self.got = told.unwrap_or(Told::new());
-        if told.is_none() {
+        if made.is_none() || self.got.is_full() {
+            self.got = Told::new();
             let (name, _) = cut(line, b' ');
             self.table
                 .row(rt, name, b"a call", b"broken line", Asks::Same)?;
@@ -49,7 +50,7 @@ impl<'a> Progress<'a> {
     // A line that is no call, and must be found so.
     fn found_broken(&mut self, rt: &impl Print, line: &[u8]) -> io::Result<()> {
         let (name, _) = cut(line, b' ');
-        let got = match call(line, &mut self.arrays) {
+        let got = match call(line, &mut self.arrays, &mut Told::new()) {
             None => b"broken line".as_slice(),
             Some(_) => b"a call",
         };

@@ -3,8 +3,13 @@ ghost use Rattle.std.specs.Prelude.{◌^◌, ◌<◌, ◌≤◌, length};
 
 use crate::fields::{Base, number};
 use crate::pieces::{cut, words};
-use std::fmt;
 use std::fmt::Write;
+use std::{array, fmt};
+
+// A number in hexadecimal, with zeros in front. (By a table: a format for each byte took twice the time.)
+fn digits(n: u64) -> [u8; 16] {
+    array::from_fn(|i| b"0123456789abcdef"[((n >> (60 - 4 * i)) % 16) as usize])
+}
 
 #[derive(Clone, Copy)]
 pub struct Text<const N: usize> {
@@ -68,23 +73,22 @@ impl<const N: usize> Text<N> {
         }
     }
 
-    // What a call told is a chain of these: a space behind each. Here a number in decimal.
-    pub fn number(mut self, n: u64) -> Self {
+    // What a call told is put together by these, a space behind each; in place, since a text by value is zeroed and copied at each step. Here a
+    // number in decimal.
+    pub fn number(&mut self, n: u64) {
         let _ = write!(self, "{n} ");
-        self
     }
 
     // Bytes or words in hexadecimal: - where there are none.
-    pub fn hex<T: Copy + Into<u64>>(mut self, all: &[T]) -> Self {
+    pub fn hex<T: Copy + Into<u64>>(&mut self, all: &[T]) {
         if all.is_empty() {
             self.push(b"-");
         }
         for x in all {
-            let n: u64 = (*x).into();
-            let _ = write!(self, "{n:0width$x}", width = 2 * size_of::<T>());
+            let width = (2 * size_of::<T>()).min(16);
+            self.push(&digits((*x).into())[16 - width..]);
         }
         self.push(b" ");
-        self
     }
 }
 
