@@ -6,7 +6,7 @@ use crate::pieces::{cut, words};
 use std::fmt::Write;
 use std::{array, fmt};
 
-// A number in hexadecimal, with zeros in front. (By a table: a format for each byte took twice the time.)
+// A number in hexadecimal, with zeros in front. (By a table, since a format for each byte is slower.)
 fn digits(n: u64) -> [u8; 16] {
     array::from_fn(|i| b"0123456789abcdef"[((n >> (60 - 4 * i)) % 16) as usize])
 }
