@@ -6,6 +6,8 @@ ghost use Rattle.std.specs.Prelude.{◌<◌, IfSome};
 pub mod fields;
 pub mod pieces;
 pub mod table;
+#[cfg(test)]
+mod tests;
 pub mod text;
 pub mod turned;
 

@@ -1,5 +1,5 @@
 // Text in a room of fixed size: what comes past its end is let go. (No heap here: memory could run out, where these programs cannot fail.)
-ghost use Rattle.std.specs.Prelude.{◌^◌, ◌<◌, ◌≤◌, length};
+ghost use Rattle.std.specs.Prelude.{◌≡◌, ◌*◌, ◌^◌, ◌<◌, ◌≤◌, length, ltb};
 
 use crate::fields::{Base, number};
 use crate::pieces::{cut, words};
@@ -9,6 +9,14 @@ use std::{array, fmt};
 // A number in hexadecimal, with zeros in front. (By a table, since a format for each byte is slower.)
 fn digits(n: u64) -> [u8; 16] {
     array::from_fn(|i| b"0123456789abcdef"[((n >> (60 - 4 * i)) % 16) as usize])
+}
+
+// Whether a number has no more hexadecimal digits than that.
+fn fits(n: u64, width: usize) -> bool
+    requires { width ≤ 16 }
+    ensures { result ≡ ltb n (2 ^ (4 * width)) }
+{
+    u128::from(n) < 1 << (4 * width)
 }
 
 #[derive(Clone, Copy)]
@@ -79,14 +87,22 @@ impl<const N: usize> Text<N> {
         let _ = write!(self, "{n} ");
     }
 
-    // Bytes or words in hexadecimal: - where there are none.
+    // A number in hexadecimal, with zeros in front up to a width.
+    fn push_padded(&mut self, n: u64, width: usize) {
+        let _ = write!(self, "{n:0width$x}");
+    }
+
+    // Bytes or words in hexadecimal: - where there are none. By a table where a type and a number have no more digits than that gives.
     pub fn hex<T: Copy + Into<u64>>(&mut self, all: &[T]) {
         if all.is_empty() {
             self.push(b"-");
         }
         for x in all {
-            let width = (2 * size_of::<T>()).min(16);
-            self.push(&digits((*x).into())[16 - width..]);
+            let n = (*x).into();
+            match 2 * size_of::<T>() {
+                width @ 1..=16 if fits(n, width) => self.push(&digits(n)[16 - width..]),
+                width => self.push_padded(n, width),
+            }
         }
         self.push(b" ");
     }
