@@ -6,12 +6,12 @@ use crate::pieces::{cut, words};
 use std::fmt::Write;
 use std::{array, fmt};
 
-// A number in hexadecimal, with zeros in front. (By a table, since a format for each byte is slower.)
+// A number in hexadecimal, with zeros in front.
 fn digits(n: u64) -> [u8; 16] {
     array::from_fn(|i| b"0123456789abcdef"[((n >> (60 - 4 * i)) % 16) as usize])
 }
 
-// Whether a number has no more hexadecimal digits than that.
+// Whether so many hexadecimal digits hold a number.
 fn fits(n: u64, width: usize) -> bool
     requires { width ≤ 16 }
     ensures { result ≡ ltb n (2 ^ (4 * width)) }
@@ -87,12 +87,7 @@ impl<const N: usize> Text<N> {
         let _ = write!(self, "{n} ");
     }
 
-    // A number in hexadecimal, with zeros in front up to a width.
-    fn push_padded(&mut self, n: u64, width: usize) {
-        let _ = write!(self, "{n:0width$x}");
-    }
-
-    // Bytes or words in hexadecimal: - where there are none. By a table where a type and a number have no more digits than that gives.
+    // Bytes or words in hexadecimal: - where there are none. By a table where it has all the digits, since a format is slower.
     pub fn hex<T: Copy + Into<u64>>(&mut self, all: &[T]) {
         if all.is_empty() {
             self.push(b"-");
@@ -101,7 +96,9 @@ impl<const N: usize> Text<N> {
             let n = (*x).into();
             match 2 * size_of::<T>() {
                 width @ 1..=16 if fits(n, width) => self.push(&digits(n)[16 - width..]),
-                width => self.push_padded(n, width),
+                width => {
+                    let _ = write!(self, "{n:0width$x}");
+                }
             }
         }
         self.push(b" ");
