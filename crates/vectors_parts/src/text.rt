@@ -87,7 +87,8 @@ impl<const N: usize> Text<N> {
         let _ = write!(self, "{n} ");
     }
 
-    // Bytes or words in hexadecimal: - where there are none. By a table where it has all the digits, since a format is slower.
+    // Bytes or words in hexadecimal: - where there are none. By a table where a type has 1 to 16 digits and the number no more than that, since a
+    // format is slower.
     pub fn hex<T: Copy + Into<u64>>(&mut self, all: &[T]) {
         if all.is_empty() {
             self.push(b"-");
